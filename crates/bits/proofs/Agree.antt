@@ -1,0 +1,49 @@
+-- Of every public function of this crate: any two outcomes that its promise allows agree.
+-- Assumes nothing.
+use mathlib.Core.Path.{_≡_}
+use contract.Lifetimes.{Lfts}
+use borrow.Fn.World.{ArgsD, ResD}
+use borrow.Fn.Kinds.{endedOf}
+use denote.Ref.{now}
+use denote.Triple.Clauses.{AtExit}
+use Rattle.ground.proofs.Outcome.{same, agree}
+use Rattle.bits.proofs.bit as bit
+use Rattle.bits.proofs.bit.Kinds as bit-kinds
+use Rattle.bits.proofs.bit.Reads as bit-reads
+use Rattle.bits.proofs.bit_from as bit-from
+use Rattle.bits.proofs.bit_from.Kinds as bit-from-kinds
+use Rattle.bits.proofs.bit_from.Reads as bit-from-reads
+use Rattle.bits.proofs.field as field
+use Rattle.bits.proofs.field.Kinds as field-kinds
+use Rattle.bits.proofs.field.Reads as field-reads
+use Rattle.bits.proofs.sink.push as push
+use Rattle.bits.proofs.sink.push.Kinds as push-kinds
+use Rattle.bits.proofs.sink.push.Reads as push-reads
+use Rattle.bits.proofs.sink.push_copies as push-copies
+use Rattle.bits.proofs.sink.push_copies.Kinds as push-copies-kinds
+use Rattle.bits.proofs.sink.push_copies.Reads as push-copies-reads
+
+module _ (κs : Lfts 1) (a : ArgsD bit.signature κs) where
+  pub bit-agrees : (r r′ : ResD bit.signature κs) (s s′ : AtExit (endedOf 1 bit-kinds.ps bit-kinds.r) κs) →
+      bit-reads.Post κs a r s → bit-reads.Post κs a r′ s′ → r ≡ r′
+  bit-agrees r r′ s s′ p q = same p q
+
+module _ (κs : Lfts 1) (a : ArgsD bit-from.signature κs) where
+  pub bit-from-agrees : (r r′ : ResD bit-from.signature κs) (s s′ : AtExit (endedOf 1 bit-from-kinds.ps bit-from-kinds.r) κs) →
+      bit-from-reads.Post κs a r s → bit-from-reads.Post κs a r′ s′ → r ≡ r′
+  bit-from-agrees r r′ s s′ p q = same p q
+
+module _ (κs : Lfts 1) (a : ArgsD field.signature κs) where
+  pub field-agrees : (r r′ : ResD field.signature κs) (s s′ : AtExit (endedOf 1 field-kinds.ps field-kinds.r) κs) →
+      field-reads.Post κs a r s → field-reads.Post κs a r′ s′ → r ≡ r′
+  field-agrees r r′ s s′ p q = same p q
+
+module _ (κs : Lfts 1) (a : ArgsD push.signature κs) where
+  pub push-agrees : (r r′ : ResD push.signature κs) (s s′ : AtExit (endedOf 1 push-kinds.ps push-kinds.r) κs) →
+      push-reads.Post κs a r s → push-reads.Post κs a r′ s′ → (r ≡ r′) × (now (s .0) ≡ now (s′ .0))
+  push-agrees r r′ s s′ p q = agree p q
+
+module _ (κs : Lfts 1) (a : ArgsD push-copies.signature κs) where
+  pub push-copies-agrees : (r r′ : ResD push-copies.signature κs) (s s′ : AtExit (endedOf 1 push-copies-kinds.ps push-copies-kinds.r) κs) →
+      push-copies-reads.Post κs a r s → push-copies-reads.Post κs a r′ s′ → (r ≡ r′) × (now (s .0) ≡ now (s′ .0))
+  push-copies-agrees r r′ s s′ p q = agree p q

@@ -1,0 +1,105 @@
+-- The laws that join the two styles: a list of bits, and the bit at a place.
+-- Assumes nothing.
+use Prim.Native.Nat.{ℕ, zero, suc, _+_, _-_, _*_, _/_, _%_, _^_, _≤_, _<_}
+use mathlib.Core.Path.{_≡_, refl, sym, ap, ap₂, _∙_, subst}
+use mathlib.Core.List.{List, [], _∷_, _++_}
+use native.Mathlib.Nat.{zero-div, zero-add}
+use native.Mathlib.Decide.{decLt}
+use native.Mathlib.Omega.{arith}
+use lib.ListN.{length, getD, take, drop, length-drop, List·getD-append, List·getD-eq-default}
+use lib.Seq.{getD-append-add, take-suc, getD-drop, getD-take, length-take-le, drop-drop, ext-getD}
+use Rattle.ground.specs.Table.{tab}
+use Rattle.ground.proofs.Table.{tab-cong, length-tab, getD-tab}
+use Rattle.bits.specs.Lists.{bits, num, unpack, pack, Below}
+use Rattle.bits.specs.Places.{bitAt, number, packed, fieldAt}
+use Rattle.bits.proofs.Lists.{bits-length, num-snoc, unpack-length, unpack-below, pack-length, unpack-pack, pack-unpack}
+use Rattle.bits.proofs.Places.{number-cong, field-is, packed-ext, packed-cong}
+
+bits-at : (n v i : ℕ) → i < n → getD (bits n v) i 0 ≡ v / 2 ^ (n - 1 - i) % 2
+unfolding bits
+bits-at zero v i h = absurd (omega arith)
+bits-at (suc n) v zero h = ap (λ (k : ℕ). v / 2 ^ k % 2) (omega arith)
+bits-at (suc n) v (suc i) h = bits-at n v i (omega arith) ∙ ap (λ (k : ℕ). v / 2 ^ k % 2) (omega arith)
+
+-- the bit at a place is the entry of the list of bits, past the end too
+pub bit-unpack : (w : List ℕ) (i : ℕ) → bitAt w i ≡ getD (unpack w) i 0
+unfolding unpack bitAt
+bit-unpack [] i =
+    let e : 0 / 2 ^ (7 - i % 8) % 2 ≡ 0 = rw (zero-div (2 ^ (7 - i % 8))) refl in
+    e
+bit-unpack (b ∷ w) i = go (decLt i 8) (bit-unpack w (i - 8))
+  where
+    go : Dec (i < 8) → getD w ((i - 8) / 8) 0 / 2 ^ (7 - (i - 8) % 8) % 2 ≡ getD (unpack w) (i - 8) 0
+        → getD (b ∷ w) (i / 8) 0 / 2 ^ (7 - i % 8) % 2 ≡ getD (bits 8 b ++ unpack w) i 0
+    go (yes p) r =
+        let a : i / 8 ≡ 0 = omega arith in
+        let m : i % 8 ≡ i = omega arith in
+        rw (List·getD-append (bits 8 b) (unpack w) 0 i (subst (λ (k : ℕ). i < k) (sym (bits-length 8 b)) p), a, m) (sym (bits-at 8 b i p))
+    go (no p) r =
+        let e : i ≡ length (bits 8 b) + (i - 8) = rw bits-length (omega arith) in
+        let a : i / 8 ≡ suc ((i - 8) / 8) = omega arith in
+        let m : i % 8 ≡ (i - 8) % 8 = omega arith in
+        rw (a, m) (r ∙ sym (ap (λ (k : ℕ). getD (bits 8 b ++ unpack w) k 0) e ∙ getD-append-add (bits 8 b) (unpack w) (i - 8) 0))
+
+-- a run of bits as a list
+pub run-unpack : (w : List ℕ) (at n : ℕ) → at + n ≤ 8 * length w → tab (bitAt w) at n ≡ take n (drop at (unpack w))
+run-unpack w at n h =
+    let u : List ℕ = unpack w in
+    let l : length (take n (drop at u)) ≡ n = length-take-le n (drop at u) (rw (length-drop, unpack-length) (omega arith)) in
+    ext-getD 0 (tab (bitAt w) at n) (take n (drop at u)) (length-tab (bitAt w) at n ∙ sym l)
+    (λ k p.
+    let q : k < n = subst (λ (m : ℕ). k < m) (length-tab (bitAt w) at n) p in
+    getD-tab (bitAt w) 0 at n k q ∙ bit-unpack w (at + k) ∙ sym (getD-take n (drop at u) k 0 q ∙ getD-drop at u k 0))
+
+-- the running number over a list of bits is the number that the list writes
+pub number-list : (l : List ℕ) (at n : ℕ) → at + n ≤ length l → number (λ i. getD l i 0) at n ≡ num (take n (drop at l))
+unfolding number num
+number-list l at zero h = refl
+number-list l at (suc n) h =
+    let k : n < length (drop at l) = rw length-drop (omega arith) in
+    let e : num (take (suc n) (drop at l)) ≡ num (take n (drop at l)) * 2 + getD l (at + n) 0 = rw (take-suc (drop at l) n 0 k, num-snoc, getD-drop) refl in
+    ap (λ (x : ℕ). x * 2 + getD l (at + n) 0) (number-list l at n (omega arith)) ∙ sym e
+
+pub number-num : (w : List ℕ) (at n : ℕ) → at + n ≤ 8 * length w → number (bitAt w) at n ≡ num (take n (drop at (unpack w)))
+number-num w at n h =
+    number-cong (bitAt w) (λ i. getD (unpack w) i 0) at n (λ k p. bit-unpack w (at + k))
+    ∙ number-list (unpack w) at n (rw unpack-length h)
+
+-- a field of packed bytes
+pub field-num : (w : List ℕ) (at n : ℕ) → n ≤ 32 → at + n ≤ 8 * length w → fieldAt w at n ≡ num (take n (drop at (unpack w)))
+field-num w at n k h = field-is w at n k ∙ number-num w at n h
+
+pack-at : (n : ℕ) (l : List ℕ) (k : ℕ) → k < n → getD (pack n l) k 0 ≡ num (take 8 (drop (8 * k) l))
+unfolding pack
+pack-at zero l k h = absurd (omega arith)
+pack-at (suc n) l zero h = refl
+pack-at (suc n) l (suc k) h =
+    let e : 8 + 8 * k ≡ 8 * suc k = omega arith in
+    pack-at n (drop 8 l) k (omega arith) ∙ ap (λ (x : List ℕ). num (take 8 x)) (drop-drop (8 * k) 8 l ∙ ap (λ (m : ℕ). drop m l) e)
+
+-- bytes packed from the entries of a list of bits are the list packed
+pub packed-pack : (n : ℕ) (l : List ℕ) → 8 * n ≤ length l → packed (λ i. getD l i 0) n ≡ pack n l
+packed-pack n l h =
+    sym (packed-ext (λ i. getD l i 0) (pack n l) n (pack-length n l) (λ k p. pack-at n l k p ∙ sym (number-list l (8 * k) 8 (omega arith))))
+
+-- bytes are packed from their own bits
+pub packed-bits : (w : List ℕ) → Below 256 w → packed (bitAt w) (length w) ≡ w
+packed-bits w h =
+    packed-cong (bitAt w) (λ i. getD (unpack w) i 0) (length w) (λ i p. bit-unpack w i)
+    ∙ packed-pack (length w) (unpack w) (rw unpack-length (omega arith)) ∙ pack-unpack w h
+
+tab-below : (f : ℕ → ℕ) → ((k : ℕ) → f k < 2) → (i n : ℕ) → Below 2 (tab f i n)
+unfolding tab
+tab-below f b i zero = tt
+tab-below f b i (suc n) = (b i, tab-below f b (suc i) n)
+
+-- the bits of packed bytes are those that were packed
+pub bit-packed : (f : ℕ → ℕ) → ((k : ℕ) → f k < 2) → (n i : ℕ) → i < 8 * n → bitAt (packed f n) i ≡ f i
+bit-packed f b n i h =
+    let l : List ℕ = tab f 0 (8 * n) in
+    let e : packed f n ≡ pack n l =
+    packed-cong f (λ k. getD l k 0) n (λ k p. sym (getD-tab f 0 0 (8 * n) k p ∙ ap f (zero-add k)))
+    ∙ packed-pack n l (rw length-tab (omega arith)) in
+    bit-unpack (packed f n) i ∙ ap (λ (w : List ℕ). getD (unpack w) i 0) e
+    ∙ ap (λ (x : List ℕ). getD x i 0) (unpack-pack n l (tab-below f b 0 (8 * n)) (length-tab f 0 (8 * n)))
+    ∙ getD-tab f 0 0 (8 * n) i h ∙ ap f (zero-add i)

@@ -1,0 +1,6 @@
+pub mod Below
+pub mod Lists
+pub mod Places
+pub mod Joined
+pub mod Pushes
+pub mod Agree

@@ -1,0 +1,112 @@
+-- Laws of bits, num, unpack and pack.
+-- Assumes nothing.
+use Prim.Native.Nat.{ℕ, zero, suc, _+_, _-_, _*_, _/_, _%_, _^_, _≤_, _<_}
+use mathlib.Core.Path.{_≡_, refl, sym, ap, ap₂, _∙_, subst}
+use mathlib.Core.List.{List, [], _∷_, _++_}
+use native.Mathlib.Nat.{pow-suc, mul-assoc, mul-comm, add-mul, mul-add-mod-self-right, mul-add-div-right, mod-eq-of-lt, mod-one, zero-mul}
+use native.Mathlib.Numerals.{one-add}
+use native.Mathlib.Omega.{arith}
+use lib.ListN.{length, getD, take, drop, length-append, length-take, length-drop, take-append-drop}
+use lib.Seq.{take-at, drop-at}
+use lib.Pow.{pow-pos, high, pow-add, mod-pow-add}
+use lib.Arith.{digits-lt}
+use Rattle.bits.specs.Lists.{bits, num, unpack, pack, Below}
+use Rattle.bits.proofs.Below.{below-append, below-take, below-drop}
+
+pub bits-length : (n v : ℕ) → length (bits n v) ≡ n
+unfolding bits
+bits-length zero v = refl
+bits-length (suc n) v = ap suc (bits-length n v)
+
+pub bits-below : (n v : ℕ) → Below 2 (bits n v)
+unfolding bits
+bits-below zero v = tt
+bits-below (suc n) v = (omega arith, bits-below n v)
+
+pub num-lt : (l : List ℕ) → Below 2 l → num l < 2 ^ length l
+unfolding num
+num-lt [] h = pow-pos 0
+num-lt (b ∷ l) h = rw (pow-suc, mul-comm (2 ^ length l) 2) (digits-lt (h .0) (num-lt l (h .1)))
+
+-- what stands above the n low bits does not show in them
+pub bits-high : (n a r : ℕ) → bits n (a * 2 ^ n + r) ≡ bits n r
+unfolding bits
+bits-high zero a r = refl
+bits-high (suc n) a r =
+    let e : a * 2 ^ suc n + r ≡ (a * 2) * 2 ^ n + r = rw (pow-suc, mul-comm (2 ^ n) 2, mul-assoc) refl in
+    rw e (ap₂ (λ (x : ℕ) (l : List ℕ). x ∷ l) (rw (mul-add-div-right (pow-pos n) (a * 2) r) (mul-add-mod-self-right a 2 (r / 2 ^ n))) (bits-high n (a * 2) r))
+
+pub bits-num : (l : List ℕ) → Below 2 l → bits (length l) (num l) ≡ l
+unfolding bits num
+bits-num [] h = refl
+bits-num (b ∷ l) h =
+    ap₂ (λ (x : ℕ) (m : List ℕ). x ∷ m)
+    (rw (high b (length l) (num-lt l (h .1))) (mod-eq-of-lt (h .0)))
+    (bits-high (length l) b (num l) ∙ bits-num l (h .1))
+
+pub num-bits-mod : (n v : ℕ) → num (bits n v) ≡ v % 2 ^ n
+unfolding bits num
+num-bits-mod zero v = sym (mod-one v)
+num-bits-mod (suc n) v = rw (bits-length n v, num-bits-mod n v, ← one-add n) (sym (mod-pow-add v 1 n))
+
+pub num-bits : (n v : ℕ) → v < 2 ^ n → num (bits n v) ≡ v
+num-bits n v h = num-bits-mod n v ∙ mod-eq-of-lt h
+
+pub num-append : (l m : List ℕ) → num (l ++ m) ≡ num l * 2 ^ length m + num m
+unfolding num
+num-append [] m = omega (arith, zero-mul (2 ^ length m))
+num-append (b ∷ l) m =
+    let e : b * 2 ^ length (l ++ m) + num (l ++ m) ≡ (b * 2 ^ length l + num l) * 2 ^ length m + num m =
+    rw (length-append, num-append l m, pow-add, ← mul-assoc, add-mul) (omega arith) in
+    e
+
+-- one bit more
+pub num-snoc : (l : List ℕ) (b : ℕ) → num (l ++ (b ∷ [])) ≡ num l * 2 + b
+unfolding num
+num-snoc l b = num-append l (b ∷ []) ∙ omega arith
+
+pub unpack-length : (w : List ℕ) → length (unpack w) ≡ 8 * length w
+unfolding unpack
+unpack-length [] = refl
+unpack-length (b ∷ w) = simp (length-append, bits-length, unpack-length w) (omega arith)
+
+pub unpack-below : (w : List ℕ) → Below 2 (unpack w)
+unfolding unpack
+unpack-below [] = tt
+unpack-below (b ∷ w) = below-append 2 (bits 8 b) (unpack w) (bits-below 8 b) (unpack-below w)
+
+pub unpack-append : (a b : List ℕ) → unpack (a ++ b) ≡ unpack a ++ unpack b
+unfolding unpack
+unpack-append [] b = refl
+unpack-append (x ∷ a) b = rw (unpack-append a b) (sym (mathlib.Core.List.append-assoc (bits 8 x) (unpack a) (unpack b)))
+
+pub pack-length : (n : ℕ) (l : List ℕ) → length (pack n l) ≡ n
+unfolding pack
+pack-length zero l = refl
+pack-length (suc n) l = ap suc (pack-length n (drop 8 l))
+
+-- a list of bits packed and unpacked again
+pub unpack-pack : (n : ℕ) (l : List ℕ) → Below 2 l → length l ≡ 8 * n → unpack (pack n l) ≡ l
+unfolding pack unpack
+unpack-pack zero [] h e = refl
+unpack-pack zero (x ∷ l) h e = absurd (omega arith)
+unpack-pack (suc n) l h e =
+    let t : length (take 8 l) ≡ 8 = length-take 8 l ∙ omega arith in
+    let b : bits 8 (num (take 8 l)) ≡ take 8 l = ap (λ k. bits k (num (take 8 l))) (sym t) ∙ bits-num (take 8 l) (below-take 2 8 l h) in
+    ap₂ (λ (x y : List ℕ). x ++ y) b (unpack-pack n (drop 8 l) (below-drop 2 8 l h) (length-drop 8 l ∙ omega arith))
+    ∙ take-append-drop 8 l
+
+-- bytes unpacked and packed again
+pub pack-unpack : (w : List ℕ) → Below 256 w → pack (length w) (unpack w) ≡ w
+unfolding pack unpack
+pack-unpack [] h = refl
+pack-unpack (b ∷ w) h =
+    ap₂ (λ (x : ℕ) (l : List ℕ). x ∷ l)
+    (ap num (take-at (bits 8 b) (unpack w) 8 (bits-length 8 b)) ∙ num-bits 8 b (h .0))
+    (ap (pack (length w)) (drop-at (bits 8 b) (unpack w) 8 (bits-length 8 b)) ∙ pack-unpack w (h .1))
+
+-- bytes with the same bits are the same bytes
+pub unpack-inj : (v w : List ℕ) → Below 256 v → Below 256 w → unpack v ≡ unpack w → v ≡ w
+unpack-inj v w hv hw e =
+    let l : length v ≡ length w = omega (arith, unpack-length v, unpack-length w, ap length e) in
+    sym (pack-unpack v hv) ∙ ap₂ pack l e ∙ pack-unpack w hw

@@ -1,0 +1,55 @@
+-- Laws of the bit at a place, the running number and packed bytes.
+-- Assumes nothing.
+use Prim.Native.Nat.{ℕ, zero, suc, _+_, _-_, _*_, _/_, _%_, _^_, _≤_, _<_}
+use mathlib.Core.Path.{_≡_, refl, sym, ap, ap₂, _∙_, subst}
+use mathlib.Core.List.{List}
+use native.Mathlib.Nat.{pow-suc}
+use native.Mathlib.Numerals.{add-one}
+use native.Mathlib.Omega.{arith}
+use lib.ListN.{length, getD}
+use lib.Pow.{pow-pos}
+use borrow.Author.Tests.{le-ltb, lt-ltb}
+use Rattle.ground.specs.Table.{tab}
+use Rattle.ground.specs.Choice.{choose}
+use Rattle.ground.proofs.Choice.{choose-false}
+use Rattle.ground.proofs.Table.{length-tab, getD-tab, tab-ext, tab-cong}
+use Rattle.bits.specs.Places.{bitAt, number, packed, fieldAt}
+
+pub bit-lt : (w : List ℕ) (i : ℕ) → bitAt w i < 2
+unfolding bitAt
+bit-lt w i = omega arith
+
+-- one bit more
+pub number-more : (f : ℕ → ℕ) (i n : ℕ) → number f i (n + 1) ≡ number f i n * 2 + f (i + n)
+unfolding number
+number-more f i n = rw add-one
+
+pub number-lt : (f : ℕ → ℕ) → ((k : ℕ) → f k < 2) → (i n : ℕ) → number f i n < 2 ^ n
+unfolding number
+number-lt f h i zero = pow-pos 0
+number-lt f h i (suc n) = rw pow-suc (omega (arith, number-lt f h i n, h (i + n)))
+
+-- the number depends on its bits alone
+pub number-cong : (f g : ℕ → ℕ) (i n : ℕ) → ((k : ℕ) → k < n → f (i + k) ≡ g (i + k)) → number f i n ≡ number g i n
+unfolding number
+number-cong f g i zero h = refl
+number-cong f g i (suc n) h = ap₂ (λ (x y : ℕ). x * 2 + y) (number-cong f g i n (λ k p. h k (omega arith))) (h n (omega arith))
+
+pub packed-length : (f : ℕ → ℕ) (n : ℕ) → length (packed f n) ≡ n
+unfolding packed
+packed-length f n = length-tab (λ k. number f (8 * k) 8) 0 n
+
+pub packed-cong : (f g : ℕ → ℕ) (n : ℕ) → ((i : ℕ) → i < 8 * n → f i ≡ g i) → packed f n ≡ packed g n
+unfolding packed
+packed-cong f g n h =
+    tab-cong (λ k. number f (8 * k) 8) (λ k. number g (8 * k) 8) 0 n
+    (λ k p. number-cong f g (8 * (0 + k)) 8 (λ t q. h (8 * (0 + k) + t) (omega arith)))
+
+-- bytes of which each is that of f are the packed bytes of f
+pub packed-ext : (f : ℕ → ℕ) (out : List ℕ) (n : ℕ) → length out ≡ n → ((k : ℕ) → k < n → getD out k 0 ≡ number f (8 * k) 8) → out ≡ packed f n
+unfolding packed
+packed-ext f out n e h = tab-ext (λ k. number f (8 * k) 8) 0 n out e h
+
+pub field-is : (w : List ℕ) (at n : ℕ) → n ≤ 32 → fieldAt w at n ≡ number (bitAt w) at n
+unfolding fieldAt
+field-is w at n h = choose-false 0 (number (bitAt w) at n) (le-ltb 32 n h)

@@ -1,0 +1,16 @@
+-- The general law of agreement: of a promise that is an outcome, any two results agree.
+-- Assumes nothing.
+use mathlib.Core.Path.{_≡_, sym, ap, _∙_}
+use Rattle.ground.specs.Outcome.{Outcome, Is}
+
+-- two answers that one definition gives are one answer
+pub same : {A : Type 0} {want r r' : A} → r ≡ want → r' ≡ want → r ≡ r'
+same p q = p ∙ sym q
+
+-- two calls that had the same outcome agree in their answer and in what they left
+pub agree : {A M : Type 0} {want : Outcome A M} {r r' : A} {m m' : M} → Is want r m → Is want r' m' → (r ≡ r') × (m ≡ m')
+agree p q = (same (p .answer) (q .answer), same (p .memory) (q .memory))
+
+-- a call that gave just what the definition says
+pub gave : {A M : Type 0} {want : Outcome A M} {r : A} {m : M} → want ≡ record { answer = r; memory = m } → Is want r m
+gave e = record { answer = sym (ap (λ o. o .answer) e); memory = sym (ap (λ o. o .memory) e) }

@@ -1,0 +1,34 @@
+-- Choice on a test, and refusals in their order.
+-- Assumes nothing.
+use Prim.Native.Nat.{ℕ}
+use mathlib.Core.Bool.{Bool, true, false}
+use mathlib.Core.List.{List, [], _∷_}
+
+-- x where the test holds, and y where it does not
+abbrev pub choose : {A : Type 0} → Bool → A → A → A
+choose true x y = x
+choose false x y = y
+
+-- both tests hold
+abbrev pub both : Bool → Bool → Bool
+both true b = b
+both false b = false
+
+-- either test holds
+abbrev pub either : Bool → Bool → Bool
+either true b = true
+either false b = b
+
+-- a fault that is looked for, and the number of its refusal
+pub record Fault : Type 0 where
+  pub number : ℕ
+  pub found : Bool
+
+-- refuse with this number where this is found
+abbrev pub refuse : ℕ → Bool → Fault
+refuse n b = record { number = n; found = b }
+
+-- the number of the first fault that is found, and 0 where none is
+abbrev pub firstOf : List Fault → ℕ
+firstOf [] = 0
+firstOf (f ∷ l) = choose (f .found) (f .number) (firstOf l)

@@ -1,0 +1,13 @@
+-- The form of a public function's promise: the answer and the lent memory afterwards are those that a definition gives.
+-- Assumes nothing.
+use mathlib.Core.Path.{_≡_}
+
+-- what a call gives: its answer, and what the memory that was lent to it holds afterwards (of several buffers, the tuple of them)
+pub record Outcome (A M : Type 0) : Type 0 where
+  pub answer : A
+  pub memory : M
+
+-- a call that answered r and left m had just this outcome
+pub record Is {A M : Type 0} (want : Outcome A M) (r : A) (m : M) : Type 0 where
+  pub answer : r ≡ want .answer
+  pub memory : m ≡ want .memory

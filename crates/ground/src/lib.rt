@@ -1,0 +1,1 @@
+// What every promise is made of: definitions and laws, no code.
