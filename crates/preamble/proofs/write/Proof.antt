@@ -55,10 +55,11 @@ unfolding sof
 loop-again c =
     let o = c .before .before in
     let out₀ = o .before .before .before .args .out .now in
-    let n : length out₀ ≡ 32 = search needs in (
-      omega (arith, c .before .loop-test .taken),
+    let n : length out₀ ≡ 32 = search needs in
+    let t : o .loop .i < 32 = omega (arith, c .before .loop-test .taken) in (
+      omega arith,
       ap (λ (l : List ℕ). set l (o .loop .i) (getD sof (o .loop .i) 0)) (o .loop .inv .1)
-          ∙ over-more out₀ sof (o .loop .i) 0 (omega (arith, c .before .loop-test .taken)) (c .before .loop-test .taken),
+          ∙ over-more out₀ sof (o .loop .i) 0 (omega arith) t,
     )
 
 -- src/lib.rt:6:1
