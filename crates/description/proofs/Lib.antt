@@ -1,0 +1,5 @@
+pub mod Each
+pub mod Rows
+pub mod Sound
+pub mod Deal
+pub mod Word
