@@ -41,11 +41,14 @@ unfolding deal recordsOf streamsOf sectionsOf
 deal-back [] rest h = refl
 deal-back (p ∷ ps) rest h =
     let a : (p .streams ++ streamsOf ps) ++ rest ≡ p .streams ++ (streamsOf ps ++ rest) = append-assoc (p .streams) (streamsOf ps) rest in
-    rw (a, take-at (p .streams) (streamsOf ps ++ rest) (ownStreams (p .fields)) (h .0 .streams),
+    rw (
+      a,
+      take-at (p .streams) (streamsOf ps ++ rest) (ownStreams (p .fields)) (h .0 .streams),
       drop-at (p .streams) (streamsOf ps ++ rest) (ownStreams (p .fields)) (h .0 .streams),
       take-at (p .sections) (sectionsOf ps) (ownSections (p .fields)) (h .0 .sections),
       drop-at (p .sections) (sectionsOf ps) (ownSections (p .fields)) (h .0 .sections),
-      deal-back ps rest (h .1))
+      deal-back ps rest (h .1),
+    )
 
 pub total-streams : (ps : List Pipe) → Each Owns ps → total ownStreams (recordsOf ps) ≡ length (streamsOf ps)
 unfolding total recordsOf streamsOf
@@ -83,13 +86,15 @@ lists-describe l c = λ i. record {
   pipes = deal-records (l .pipes) (l .streams) (l .sections) i;
   tail = l .tail;
   streams = whole i;
-  sections = every i
+  sections = every i;
 }
   where
     n : ℕ
     n = total ownStreams (l .pipes)
+
     whole : streamsOf (deal (l .pipes) (l .streams) (l .sections)) ++ drop n (l .streams) ≡ l .streams
     whole = ap (λ (x : List (List ℕ)). x ++ drop n (l .streams)) (deal-streams (l .pipes) (l .streams) (l .sections)) ∙ take-append-drop n (l .streams)
+
     every : sectionsOf (deal (l .pipes) (l .streams) (l .sections)) ≡ l .sections
     every = deal-sections (l .pipes) (l .streams) (l .sections) ∙ take-all (total ownSections (l .pipes)) (l .sections) (omega (arith, c .sections))
 
@@ -99,7 +104,7 @@ describe-lists d h = λ i. record {
   multiplex = d .multiplex;
   pipes = deal-back (d .pipes) (d .tailStreams) (h .each) i;
   tail = d .tail;
-  tailStreams = drop-at (streamsOf (d .pipes)) (d .tailStreams) (total ownStreams (recordsOf (d .pipes))) (sym (total-streams (d .pipes) (h .each))) i
+  tailStreams = drop-at (streamsOf (d .pipes)) (d .tailStreams) (total ownStreams (recordsOf (d .pipes))) (sym (total-streams (d .pipes) (h .each))) i;
 }
 
 pub counted : (d : Description) → Sized d → Counted (listsOf d)
@@ -107,15 +112,16 @@ unfolding listsOf streamCount sectionCount
 counted d h = record {
   pipes = records-length (d .pipes) ∙ h .pipes;
   streams = length-append (streamsOf (d .pipes)) (d .tailStreams) ∙ ap₂ _+_ (sym (total-streams (d .pipes) (h .each))) (h .tail);
-  sections = sym (total-sections (d .pipes) (h .each))
+  sections = sym (total-sections (d .pipes) (h .each));
 }
 
 deal-owns : (fs ss ds : List (List ℕ)) → total ownStreams fs ≤ length ss → total ownSections fs ≤ length ds → Each Owns (deal fs ss ds)
 unfolding deal total
 deal-owns [] ss ds hs hd = tt
-deal-owns (f ∷ fs) ss ds hs hd =
-    (record { streams = length-take-le (ownStreams f) ss (omega arith); sections = length-take-le (ownSections f) ds (omega arith) },
-     deal-owns fs (drop (ownStreams f) ss) (drop (ownSections f) ds) (rw length-drop (omega arith)) (rw length-drop (omega arith)))
+deal-owns (f ∷ fs) ss ds hs hd = (
+  record { streams = length-take-le (ownStreams f) ss (omega arith); sections = length-take-le (ownSections f) ds (omega arith) },
+  deal-owns fs (drop (ownStreams f) ss) (drop (ownSections f) ds) (rw length-drop (omega arith)) (rw length-drop (omega arith)),
+)
 
 deal-length : (fs ss ds : List (List ℕ)) → length (deal fs ss ds) ≡ length fs
 unfolding deal
@@ -127,5 +133,5 @@ unfolding describe streamCount sectionCount
 sized l c = record {
   pipes = deal-length (l .pipes) (l .streams) (l .sections) ∙ c .pipes;
   each = deal-owns (l .pipes) (l .streams) (l .sections) (omega (arith, c .streams)) (omega (arith, c .sections));
-  tail = length-drop (total ownStreams (l .pipes)) (l .streams) ∙ omega (arith, c .streams)
+  tail = length-drop (total ownStreams (l .pipes)) (l .streams) ∙ omega (arith, c .streams);
 }

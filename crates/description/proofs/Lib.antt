@@ -3,3 +3,8 @@ pub mod Rows
 pub mod Sound
 pub mod Deal
 pub mod Word
+pub mod Tests
+pub mod Keeps
+pub mod Sealed
+pub mod Demand
+pub mod Bounds

@@ -35,22 +35,23 @@ cut-join (k ∷ t) [] rest h = absurd h
 cut-join (k ∷ t) (v ∷ vs) rest h =
     let a : (bits k v ++ join t vs) ++ rest ≡ bits k v ++ (join t vs ++ rest) = append-assoc (bits k v) (join t vs) rest in
     let e : num (take k (bits k v ++ (join t vs ++ rest))) ∷ cut t (drop k (bits k v ++ (join t vs ++ rest))) ≡ v ∷ vs =
-        rw (take-at (bits k v) (join t vs ++ rest) k (bits-length k v), drop-at (bits k v) (join t vs ++ rest) k (bits-length k v), num-bits k v (h .0), cut-join t vs rest (h .1)) in
+    rw (take-at (bits k v) (join t vs ++ rest) k (bits-length k v), drop-at (bits k v) (join t vs ++ rest) k (bits-length k v), num-bits k v (h .0), cut-join t vs rest (h .1)) in
     rw a e
 
 pub cut-row : (t b : List ℕ) → Below 2 b → Row t (cut t b)
 unfolding cut Row
 cut-row [] b h = tt
-cut-row (k ∷ t) b h =
-    (lt-of-lt-of-le (num-lt (take k b) (below-take 2 k b h)) (pow-mono {j = k} (rw length-take (omega arith))),
-    cut-row t (drop k b) (below-drop 2 k b h))
+cut-row (k ∷ t) b h = (
+  lt-of-lt-of-le (num-lt (take k b) (below-take 2 k b h)) (pow-mono {j = k} (rw length-take (omega arith))),
+  cut-row t (drop k b) (below-drop 2 k b h),
+)
 
 pub join-cut : (t b : List ℕ) → Below 2 b → width t ≤ length b → join t (cut t b) ≡ take (width t) b
 unfolding cut join width
 join-cut [] b h f = refl
 join-cut (k ∷ t) b h f =
     let e : bits k (num (take k b)) ≡ take k b =
-        subst (λ (n : ℕ). bits n (num (take k b)) ≡ take k b) (length-take-le k b (omega arith)) (bits-num (take k b) (below-take 2 k b h)) in
+    subst (λ (n : ℕ). bits n (num (take k b)) ≡ take k b) (length-take-le k b (omega arith)) (bits-num (take k b) (below-take 2 k b h)) in
     let g : width t ≤ length (drop k b) = rw length-drop (omega arith) in
     rw (e, join-cut t (drop k b) (below-drop 2 k b h) g, take-add k (width t) b)
 
@@ -60,13 +61,18 @@ unfolding joins
 joins-length t [] = sym (zero-mul (width t))
 joins-length t (r ∷ rs) = length-append (join t r) (joins t rs) ∙ omega (arith, join-length t r, joins-length t rs, suc-mul (length rs) (width t))
 
+pub joins-below : (t : List ℕ) (rs : List (List ℕ)) → Below 2 (joins t rs)
+unfolding joins
+joins-below t [] = tt
+joins-below t (r ∷ rs) = below-append 2 (join t r) (joins t rs) (join-below t r) (joins-below t rs)
+
 pub cuts-joins : (t : List ℕ) (rs : List (List ℕ)) (rest : List ℕ) → Each (Row t) rs → cuts t (length rs) (joins t rs ++ rest) ≡ rs
 unfolding joins cuts
 cuts-joins t [] rest h = refl
 cuts-joins t (r ∷ rs) rest h =
     let a : (join t r ++ joins t rs) ++ rest ≡ join t r ++ (joins t rs ++ rest) = append-assoc (join t r) (joins t rs) rest in
     let e : cut t (join t r ++ (joins t rs ++ rest)) ∷ cuts t (length rs) (drop (width t) (join t r ++ (joins t rs ++ rest))) ≡ r ∷ rs =
-        rw (cut-join t r (joins t rs ++ rest) (h .0), drop-at (join t r) (joins t rs ++ rest) (width t) (join-length t r), cuts-joins t rs rest (h .1)) in
+    rw (cut-join t r (joins t rs ++ rest) (h .0), drop-at (join t r) (joins t rs ++ rest) (width t) (join-length t r), cuts-joins t rs rest (h .1)) in
     rw a e
 
 pub cuts-length : (t : List ℕ) (n : ℕ) (b : List ℕ) → length (cuts t n b) ≡ n
@@ -124,3 +130,10 @@ cuts-take t zero n b h = refl
 cuts-take t (suc k) zero b h = absurd (omega arith)
 cuts-take t (suc k) (suc n) b h = ap (λ (l : List (List ℕ)). cut t b ∷ l) (cuts-take t k n (drop (width t) b) (omega arith))
 
+-- a value of a row fits its field
+pub row-at : (t vs : List ℕ) (k : ℕ) → Row t vs → k < length t → getD vs k 0 < 2 ^ getD t k 0
+unfolding Row
+row-at [] vs k r h = absurd (omega arith)
+row-at (w ∷ t) [] k r h = absurd r
+row-at (w ∷ t) (v ∷ vs) zero r h = r .0
+row-at (w ∷ t) (v ∷ vs) (suc k) r h = row-at t vs k (r .1) (omega arith)

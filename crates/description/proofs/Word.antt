@@ -8,14 +8,14 @@ use native.Mathlib.Omega.{arith}
 use lib.ListN.{length, getD, take, drop, length-append, length-take, length-drop}
 use lib.Seq.{take-at, drop-at, drop-drop, take-add}
 use Rattle.bits.specs.Lists.{Below}
-use Rattle.bits.proofs.Below.{below-drop}
+use Rattle.bits.proofs.Below.{below-drop, below-append}
 use Rattle.description.specs.Rows.{Each, total, width, join, cut, Row, joins, cuts}
 use Rattle.description.specs.Fields.{table15, table16, table16b, table18, table19, numPipes}
 use Rattle.description.specs.Description.{Lists, streamCount, sectionCount}
 use Rattle.description.specs.Rules.{size}
 use Rattle.description.specs.Layout.{body}
 use Rattle.description.specs.Word.{multiplexIn, pIn, pipesIn, tailIn, sIn, dIn, streamsIn, sectionsIn, listsIn}
-use Rattle.description.proofs.Rows.{join-length, cut-join, join-cut, cut-row, joins-length, cuts-joins, joins-cuts, cuts-length, cuts-rows}
+use Rattle.description.proofs.Rows.{join-length, join-below, joins-below, cut-join, join-cut, cut-row, joins-length, cuts-joins, joins-cuts, cuts-length, cuts-rows}
 use Rattle.description.proofs.Deal.{Counted}
 use Rattle.description.proofs.Sound.{Sound}
 
@@ -35,6 +35,14 @@ after1 l rest = joins table16 (l .pipes) ++ after2 l rest
 pub body-length : (l : Lists) → length (body l) ≡ size (length (l .pipes)) (length (l .streams)) (length (l .sections))
 unfolding body width
 body-length l = simp (length-append, join-length, joins-length) (omega arith)
+
+pub body-below : (l : Lists) → Below 2 (body l)
+unfolding body
+body-below l =
+    below-append 2 (join table15 (l .multiplex)) _ (join-below table15 (l .multiplex))
+    (below-append 2 (joins table16 (l .pipes)) _ (joins-below table16 (l .pipes))
+    (below-append 2 (join table16b (l .tail)) _ (join-below table16b (l .tail))
+    (below-append 2 (joins table18 (l .streams)) (joins table19 (l .sections)) (joins-below table18 (l .streams)) (joins-below table19 (l .sections)))))
 
 -- ---- written, then read
 module _ (l : Lists) (sound : Sound l) (c : Counted l) (rest : List ℕ) where
@@ -112,7 +120,7 @@ unfolding listsIn pipesIn streamsIn sectionsIn pIn sIn dIn
 counted-in b = record {
   pipes = cuts-length table16 (pIn b) (drop 56 b);
   streams = cuts-length table18 (sIn b) (drop (72 + 48 * pIn b) b);
-  sections = cuts-length table19 (dIn b) (drop (72 + 48 * pIn b + 16 * sIn b) b)
+  sections = cuts-length table19 (dIn b) (drop (72 + 48 * pIn b + 16 * sIn b) b);
 }
 
 pub sound-in : (b : List ℕ) → Below 2 b → Sound (listsIn b)
@@ -122,7 +130,7 @@ sound-in b h = record {
   pipes = cuts-rows table16 (pIn b) (drop 56 b) (below-drop 2 56 b h);
   tail = cut-row table16b (drop (56 + 48 * pIn b) b) (below-drop 2 (56 + 48 * pIn b) b h);
   streams = cuts-rows table18 (sIn b) (drop (72 + 48 * pIn b) b) (below-drop 2 (72 + 48 * pIn b) b h);
-  sections = cuts-rows table19 (dIn b) (drop (72 + 48 * pIn b + 16 * sIn b) b) (below-drop 2 (72 + 48 * pIn b + 16 * sIn b) b h)
+  sections = cuts-rows table19 (dIn b) (drop (72 + 48 * pIn b + 16 * sIn b) b) (below-drop 2 (72 + 48 * pIn b + 16 * sIn b) b h);
 }
 
 module _ (b : List ℕ) (h : Below 2 b) (fits : size (pIn b) (sIn b) (dIn b) ≤ length b) where
@@ -168,7 +176,7 @@ module _ (b : List ℕ) (h : Below 2 b) (fits : size (pIn b) (sIn b) (dIn b) ≤
       rw (t≡, ← cut4, take-add 16 (16 * s + 12 * d) (drop (56 + 48 * p) b), drop-drop 16 (56 + 48 * p) b, n)
 
   cut2 : take (48 * p + (16 + (16 * s + 12 * d))) (drop 56 b)
-    ≡ joins table16 (pipesIn b) ++ (join table16b (tailIn b) ++ (joins table18 (streamsIn b) ++ joins table19 (sectionsIn b)))
+      ≡ joins table16 (pipesIn b) ++ (join table16b (tailIn b) ++ (joins table18 (streamsIn b) ++ joins table19 (sectionsIn b)))
   cut2 = rw (ps≡, ← cut3, take-add (48 * p) (16 + (16 * s + 12 * d)) (drop 56 b), drop-drop (48 * p) 56 b)
 
   pub body-lists : body (listsIn b) ≡ take (size (pIn b) (sIn b) (dIn b)) b

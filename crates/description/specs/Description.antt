@@ -61,7 +61,7 @@ listsOf d = record {
   pipes = recordsOf (d .pipes);
   tail = d .tail;
   streams = streamsOf (d .pipes) ++ d .tailStreams;
-  sections = sectionsOf (d .pipes)
+  sections = sectionsOf (d .pipes);
 }
 
 -- streams and sections dealt to the pipes that own them
@@ -76,7 +76,7 @@ describe l = record {
   multiplex = l .multiplex;
   pipes = deal (l .pipes) (l .streams) (l .sections);
   tail = l .tail;
-  tailStreams = drop (total ownStreams (l .pipes)) (l .streams)
+  tailStreams = drop (total ownStreams (l .pipes)) (l .streams);
 }
 
 -- how many streams and sections the records say that there are

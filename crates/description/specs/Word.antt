@@ -87,6 +87,6 @@ reading w out =
     choose (eqb (readRefusal w out) 0)
     (record {
       answer = record { number = 0; values = pIn (unpack w) ∷ sIn (unpack w) ∷ dIn (unpack w) ∷ [] };
-      memory = front (sheetOf (listsIn (unpack w))) out
+      memory = front (sheetOf (listsIn (unpack w))) out;
     })
     (record { answer = record { number = readRefusal w out; values = [] }; memory = out })
