@@ -7,7 +7,7 @@ use native.Mathlib.Nat.{zero-add, le-of-eq}
 use native.Mathlib.Numerals.{add-one}
 use native.Mathlib.Omega.{arith}
 use lib.ListN.{length, getD, take, drop, set, drop-of-length-le}
-use lib.Seq.{paste, paste-suc, length-paste, take-all}
+use lib.Seq.{paste, paste-suc, length-paste, take-all, take-at, drop-at, drop-drop}
 
 module _ {A : Type 0} where
   abbrev pub over : List A → List A → ℕ → List A
@@ -28,3 +28,10 @@ module _ {A : Type 0} where
   -- all entries
   pub over-all : (d s : List A) (i : ℕ) → length d ≡ i → length s ≡ i → over d s i ≡ s
   over-all d s i h k = ap₂ (λ (x y : List A). x ++ y) (take-all i s (le-of-eq k)) (drop-of-length-le d (le-of-eq h)) ∙ append-nil s
+
+  -- copied behind what stands at the front already
+  pub paste-behind : (d a x : List A) (n m : ℕ) → length a ≡ n → length x ≡ m → paste (a ++ drop n d) n x m ≡ (a ++ x) ++ drop (n + m) d
+  paste-behind d a x n m h k =
+      let e : drop (n + m) (a ++ drop n d) ≡ drop (n + m) d =
+      sym (drop-drop m n (a ++ drop n d)) ∙ ap (drop m) (drop-at a (drop n d) n h) ∙ drop-drop m n d in
+      rw (take-at a (drop n d) n h, take-all m x (le-of-eq k), e)

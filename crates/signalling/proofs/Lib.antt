@@ -1,0 +1,10 @@
+pub mod Records
+pub mod Walks
+pub mod Searches
+pub mod Surveys
+pub mod Copies
+pub mod Fill
+pub mod Readings
+pub mod Told
+pub mod Agree
+pub mod Demand
