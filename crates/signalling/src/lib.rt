@@ -17,6 +17,9 @@ pub enum Reading {
     Refused(u8),
 }
 
+// The tail pipe never owns a section (clause 4.10.8).
+const TAIL_SECTIONS: usize = 0;
+
 // All tests of a word of 96 bytes, in the reader's order: 2 5 6 7 8 9 10 11.
 fn survey(word: &[u8]) -> Reading
     requires { ⌜ length (now word) ≡ 96 ⌝ }
@@ -38,7 +41,7 @@ fn survey(word: &[u8]) -> Reading
     }
     let own = crate::counts::count(word, 56, p);
     let s = own.s + crate::counts::tail_owned(word, 56 + 48 * p);
-    let d = own.d;
+    let d = own.d + TAIL_SECTIONS;
     let end = 72 + 48 * p + 16 * s + 12 * d;
     if 750 < end {
         return Reading::Refused(7);

@@ -86,13 +86,13 @@ returns c =
 mul-from : tie.Need-mul-from Inv-loop μ-loop
 mul-from c =
     let o = c .before .before .before .before .before .before .before in
-    omega (arith, mul-le-mul {n₁ = o .args .step} {m₁ = c .before .before .before .owned .result .d} {n₂ = 16} {m₂ = 8} (o .pre .2) (c .before .before .before .owned .ensures .3))
+    omega (arith, mul-le-mul {n₁ = o .args .step} {m₁ = c .before .before .before .owned .result .d} {n₂ = 16} {m₂ = 8} (o .pre .2) (c .before .before .before .owned .ensures .3), mul-le-mul {n₁ = o .args .step} {m₁ = c .before .before .before .owned .result .s} {n₂ = 16} {m₂ = 32} (o .pre .2) (c .before .before .before .owned .ensures .2))
 
 -- src/faults.rt:79:9
 add-from : tie.Need-add-from Inv-loop μ-loop
 add-from c =
     let o = c .before .before .before .before .before .before .before in
-    omega (arith, mul-le-mul {n₁ = o .args .step} {m₁ = c .before .before .before .owned .result .d} {n₂ = 16} {m₂ = 8} (o .pre .2) (c .before .before .before .owned .ensures .3))
+    omega (arith, mul-le-mul {n₁ = o .args .step} {m₁ = c .before .before .before .owned .result .d} {n₂ = 16} {m₂ = 8} (o .pre .2) (c .before .before .before .owned .ensures .3), mul-le-mul {n₁ = o .args .step} {m₁ = c .before .before .before .owned .result .s} {n₂ = 16} {m₂ = 32} (o .pre .2) (c .before .before .before .owned .ensures .2))
 
 -- src/faults.rt:80:9
 add-i : tie.Need-add-i Inv-loop μ-loop
