@@ -1,0 +1,5 @@
+pub mod Stores
+pub mod LastBytes
+pub mod Writing
+pub mod Faults
+pub mod Answers
