@@ -1,21 +1,15 @@
 -- Laws of numbers in fields that stand one behind the other, and in whole bytes.
 -- Assumes nothing.
-use Prim.Native.Nat.{ℕ, zero, suc, _+_, _-_, _*_, _/_, _%_, _^_, _≤_, _<_}
-use mathlib.Core.Path.{_≡_, refl, sym, ap, ap₂, _∙_}
+use Prim.Native.Nat.{ℕ, zero, suc, _+_, _*_, _/_, _%_, _^_, _<_}
+use mathlib.Core.Path.{_≡_, sym, ap, ap₂, _∙_}
 use mathlib.Core.List.{List, [], _∷_, _++_}
 use native.Mathlib.Nat.{zero-add, suc-add, add-comm}
 use native.Mathlib.Omega.{arith}
 use lib.ListN.{length, take, drop}
 use lib.Seq.{take-at, drop-at}
 use lib.Pow.{high, shr-shr}
-use Rattle.bits.specs.Lists.{bits, num, pack, Below}
-use Rattle.bits.specs.Places.{bitAt, fieldAt}
+use Rattle.bits.specs.Lists.{bits, num, pack}
 use Rattle.bits.proofs.Lists.{bits-length, bits-high, num-bits-mod}
-use Rattle.bits.proofs.Places.{bit-lt, number-lt, field-is}
-
--- a field fits its width
-pub field-lt : (w : List ℕ) (at n : ℕ) → n ≤ 32 → fieldAt w at n < 2 ^ n
-field-lt w at n h = rw (field-is w at n h) (number-lt (bitAt w) (bit-lt w) at n)
 
 -- the bits of a number, cut in two
 pub bits-append : (m n v : ℕ) → bits (m + n) v ≡ bits m (v / 2 ^ n) ++ bits n v

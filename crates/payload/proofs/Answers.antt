@@ -8,9 +8,8 @@ use native.Mathlib.Decide.{decLt}
 use borrow.Author.Tests.{eq-eqb, ne-eqb}
 use lib.Dec.{eqb}
 use lib.ListN.{length, take}
-use Rattle.ground.specs.Outcome.{Outcome, Is}
+use Rattle.ground.specs.Outcome.{Is, Told}
 use Rattle.ground.specs.Choice.{choose}
-use Rattle.ground.proofs.Outcome.{gave}
 use Rattle.ground.proofs.Choice.{choose-true, choose-false}
 use Rattle.payload.specs.Suffix.{idOf, kindOf, versionOf}
 use Rattle.payload.specs.Word.{packetBytes, rfuOf}
@@ -37,22 +36,22 @@ done n new old m e h = record { answer = e; memory = h ∙ sym (chooses n new ol
 module _ (w : List ℕ) where
   pub tells-refusal : (n : ℕ) → n ≡ readRefusal w → 0 < n → told (Refused n) ≡ reading w
   unfolding reading
-  tells-refusal n e h = ap₂ (λ (x : ℕ) (l : List ℕ). (x, l)) e (sym (leaves (readRefusal w) (rfuOf w ∷ idOf w ∷ kindOf w ∷ []) [] (omega arith)))
+  tells-refusal n e h = ap₂ (λ (x : ℕ) (l : List ℕ). record { number = x; values = l }) e (sym (leaves (readRefusal w) (rfuOf w ∷ idOf w ∷ kindOf w ∷ []) [] (omega arith)))
 
   pub tells-fields : (rfu id kind : ℕ) → 0 ≡ readRefusal w → rfu ≡ rfuOf w → id ≡ idOf w → kind ≡ kindOf w → told (Fields rfu id kind) ≡ reading w
   unfolding reading
   tells-fields rfu id kind e p q r =
       let l : rfu ∷ id ∷ kind ∷ [] ≡ rfuOf w ∷ idOf w ∷ kindOf w ∷ [] = cc in
-      ap₂ (λ (x : ℕ) (l : List ℕ). (x, l)) e (l ∙ sym (chooses (readRefusal w) (rfuOf w ∷ idOf w ∷ kindOf w ∷ []) [] (sym e)))
+      ap₂ (λ (x : ℕ) (l : List ℕ). record { number = x; values = l }) e (l ∙ sym (chooses (readRefusal w) (rfuOf w ∷ idOf w ∷ kindOf w ∷ []) [] (sym e)))
 
   -- a refusal that is told is the word's, and not 0
   pub refusal-told : (n : ℕ) → told (Refused n) ≡ reading w → (n ≡ readRefusal w) × (0 < n)
   unfolding reading
   refusal-told n e =
-      let a : n ≡ readRefusal w = ap (λ (x : ℕ × List ℕ). x .0) e in
+      let a : n ≡ readRefusal w = ap (λ (t : Told). t .number) e in
       elim (decLt 0 n) [
         | yes h ↦ (a, h)
-        | no h ↦ absurd (never (ap (λ (x : ℕ × List ℕ). x .1) e ∙ chooses (readRefusal w) (rfuOf w ∷ idOf w ∷ kindOf w ∷ []) [] (omega arith)))
+        | no h ↦ absurd (never (ap (λ (t : Told). t .values) e ∙ chooses (readRefusal w) (rfuOf w ∷ idOf w ∷ kindOf w ∷ []) [] (omega arith)))
       ]
     where
       never : [] ≡ rfuOf w ∷ idOf w ∷ kindOf w ∷ [] → ⊥
@@ -62,9 +61,9 @@ module _ (w : List ℕ) where
   pub fields-told : (rfu id kind : ℕ) → told (Fields rfu id kind) ≡ reading w → (0 ≡ readRefusal w) × (rfu ≡ rfuOf w) × (id ≡ idOf w) × (kind ≡ kindOf w)
   unfolding reading
   fields-told rfu id kind e =
-      let a : 0 ≡ readRefusal w = ap (λ (x : ℕ × List ℕ). x .0) e in
+      let a : 0 ≡ readRefusal w = ap (λ (t : Told). t .number) e in
       let l : rfu ∷ id ∷ kind ∷ [] ≡ rfuOf w ∷ idOf w ∷ kindOf w ∷ [] =
-      ap (λ (x : ℕ × List ℕ). x .1) e ∙ chooses (readRefusal w) (rfuOf w ∷ idOf w ∷ kindOf w ∷ []) [] (sym a) in
+      ap (λ (t : Told). t .values) e ∙ chooses (readRefusal w) (rfuOf w ∷ idOf w ∷ kindOf w ∷ []) [] (sym a) in
       (a, cc, cc, cc)
 
   -- the payload that is shown
@@ -95,8 +94,8 @@ module _ (w out : List ℕ) where
 -- what is told determines the answer
 pub told-inj : (h h' : Header) → told h ≡ told h' → h ≡ h'
 told-inj (Fields a b c) (Fields a' b' c') e =
-    let l : a ∷ b ∷ c ∷ [] ≡ a' ∷ b' ∷ c' ∷ [] = ap (λ (x : ℕ × List ℕ). x .1) e in
+    let l : a ∷ b ∷ c ∷ [] ≡ a' ∷ b' ∷ c' ∷ [] = ap (λ (t : Told). t .values) e in
     cc
-told-inj (Fields a b c) (Refused n) e = absurd (let l : a ∷ b ∷ c ∷ [] ≡ [] = ap (λ (x : ℕ × List ℕ). x .1) e in let z : _≡_ {A = ℕ} 0 1 = cc in omega arith)
-told-inj (Refused n) (Fields a b c) e = absurd (let l : [] ≡ a ∷ b ∷ c ∷ [] = ap (λ (x : ℕ × List ℕ). x .1) e in let z : _≡_ {A = ℕ} 0 1 = cc in omega arith)
-told-inj (Refused n) (Refused n') e = ap Refused (ap (λ (x : ℕ × List ℕ). x .0) e)
+told-inj (Fields a b c) (Refused n) e = absurd (let l : a ∷ b ∷ c ∷ [] ≡ [] = ap (λ (t : Told). t .values) e in let z : _≡_ {A = ℕ} 0 1 = cc in omega arith)
+told-inj (Refused n) (Fields a b c) e = absurd (let l : [] ≡ a ∷ b ∷ c ∷ [] = ap (λ (t : Told). t .values) e in let z : _≡_ {A = ℕ} 0 1 = cc in omega arith)
+told-inj (Refused n) (Refused n') e = ap Refused (ap (λ (t : Told). t .number) e)

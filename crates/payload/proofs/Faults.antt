@@ -2,15 +2,19 @@
 -- Assumes nothing.
 use Prim.Native.Nat.{ℕ, _≤_, _<_}
 use mathlib.Core.Path.{_≡_}
+use mathlib.Core.Bool.{false, not}
 use mathlib.Core.List.{List}
 use native.Mathlib.Omega.{arith}
-use borrow.Author.Tests.{eq-eqb, ne-eqb, lt-ltb, le-ltb, ltb-false}
-use lib.Dec.{ltb}
+use borrow.Author.Tests.{eq-eqb, ne-eqb, lt-ltb, le-ltb, eqb-true, ltb-false, not-false}
+use lib.Dec.{eqb}
 use lib.ListN.{length}
-use Rattle.ground.proofs.Choice.{past, past-equal}
+use Rattle.ground.proofs.Choice.{all-clear}
 use Rattle.payload.specs.Suffix.{kindOf, versionOf, crcFieldOf, spareOf, coveredOf, headerCrc}
 use Rattle.payload.specs.Word.{packetBytes}
-use Rattle.payload.specs.Answers.{writeRefusal, readRefusal}
+use Rattle.payload.specs.Answers.{writeFaults, writeRefusal, readFaults, readRefusal}
+
+equal : (a b : ℕ) → not (eqb a b) ≡ false → a ≡ b
+equal a b e = eqb-true a b (not-false (eqb a b) e)
 
 -- what the writer asks, with the lengths of the packet and of the word
 pub record Writable (kind packet word : ℕ) : Type 0 where
@@ -38,10 +42,8 @@ module _ (kind packet word : ℕ) where
   pub writable : writeRefusal kind packet word ≡ 0 → Writable kind packet word
   unfolding writeRefusal
   writable e =
-      let a = past (ltb 1 kind) 15 _ (omega arith) e in
-      let b = past-equal packet (packetBytes kind) 1 _ (omega arith) (a .1) in
-      let c = past-equal word 1536 1 0 (omega arith) (b .1) in
-      record { kind-is = ltb-false 1 kind (a .0); packet-is = b .0; word-is = c .0 }
+      let a = all-clear (writeFaults kind packet word) tt e in
+      record { kind-is = ltb-false 1 kind (a .0); packet-is = equal packet (packetBytes kind) (a .1 .0); word-is = equal word 1536 (a .1 .1 .0) }
 
 -- what the reader asks
 pub record Readable (w : List ℕ) : Type 0 where
@@ -99,9 +101,11 @@ module _ (w : List ℕ) where
   pub readable : readRefusal w ≡ 0 → Readable w
   unfolding readRefusal
   readable e =
-      let a = past-equal (length w) 1536 1 _ (omega arith) e in
-      let b = past-equal (spareOf w) 0 2 _ (omega arith) (a .1) in
-      let c = past-equal (crcFieldOf w) (headerCrc (coveredOf w)) 5 _ (omega arith) (b .1) in
-      let d = past-equal (versionOf w) 0 16 _ (omega arith) (c .1) in
-      let f = past (ltb 1 (kindOf w)) 15 0 (omega arith) (d .1) in
-      record { word-is = a .0; spare-is = b .0; crc-is = c .0; version-is = d .0; kind-is = ltb-false 1 (kindOf w) (f .0) }
+      let a = all-clear (readFaults w) tt e in
+      record {
+        word-is = equal (length w) 1536 (a .0);
+        spare-is = equal (spareOf w) 0 (a .1 .0);
+        crc-is = equal (crcFieldOf w) (headerCrc (coveredOf w)) (a .1 .1 .0);
+        version-is = equal (versionOf w) 0 (a .1 .1 .1 .0);
+        kind-is = ltb-false 1 (kindOf w) (a .1 .1 .1 .1 .0);
+      }

@@ -2,7 +2,7 @@
 use Prim.Native.Nat.{_^_, _≤_}
 use native.Mathlib.Omega.{arith}
 use lib.Pow.{pow-mono}
-use Rattle.bits.proofs.Numbers.{field-lt}
+use Rattle.bits.proofs.Places.{field-lt}
 use borrow.Author.Needs.{needs}
 use Rattle.payload.proofs.suffix.field.Statement.{statement}
 use Rattle.payload.proofs.suffix.field.Tie as tie
