@@ -3,3 +3,5 @@ pub mod LastBytes
 pub mod Writing
 pub mod Faults
 pub mod Answers
+pub mod WaysBack
+pub mod Agree

@@ -1,0 +1,102 @@
+-- The ways back, over the definitions: what the reader makes of a written word, and which words the writer writes.
+-- Assumes nothing.
+use Prim.Native.Nat.{ℕ, _+_, _-_, _≤_, _<_}
+use mathlib.Core.Path.{_≡_, refl, sym, ap, ap₂, _∙_}
+use mathlib.Core.List.{List, [], _∷_, _++_, append-assoc, append-nil}
+use native.Mathlib.Omega.{arith}
+use lib.ListN.{length, take, drop, replicate, length-append, take-append-drop, length-drop}
+use lib.Seq.{take-at, drop-at, length-take-le}
+use Rattle.ground.specs.Outcome.{Is}
+use Rattle.bits.specs.Lists.{bits, pack, Below}
+use Rattle.bits.proofs.Lists.{pack-length}
+use Rattle.payload.specs.Suffix.{idOf, kindOf, versionOf, crcFieldOf, spareOf, headerCrc, header, closed}
+use Rattle.payload.specs.Word.{packetBytes, filled, rfuOf, wordOf}
+use Rattle.payload.specs.Answers.{readRefusal, told, reading, shown, headerBytes, readInto}
+use Rattle.payload.specs.declared.Header.the-variants.{Fields}
+use Rattle.payload.proofs.Stores.{filled-length}
+use Rattle.payload.proofs.LastBytes.{rfu-is, id-is, kind-is, version-is, spare-is, crc-is, covered-fields, last-fields}
+use Rattle.payload.proofs.Writing.{packet-le}
+use Rattle.payload.proofs.Faults.{Readable, read-0, readable}
+use Rattle.payload.proofs.Answers.{tells-fields, shows, into-done}
+
+-- a word that the writer writes
+module _ (kind id : ℕ) (p : List ℕ) (k : kind ≤ 1) (i : id < 256) (n : length p ≡ packetBytes kind) where
+  front-length : length (filled p) ≡ 1532
+  front-length = filled-length p (omega (arith, packet-le kind))
+
+  word-length : length (wordOf kind id p) ≡ 1536
+  unfolding wordOf
+  word-length = simp (length-append, pack-length) (omega (arith, front-length))
+
+  rfu-back : rfuOf (wordOf kind id p) ≡ 0
+  unfolding wordOf
+  rfu-back = rfu-is (filled p) 0 id kind 0 front-length (omega arith)
+
+  id-back : idOf (wordOf kind id p) ≡ id
+  unfolding wordOf
+  id-back = id-is (filled p) 0 id kind 0 front-length i
+
+  kind-back : kindOf (wordOf kind id p) ≡ kind
+  unfolding wordOf
+  kind-back = kind-is (filled p) 0 id kind 0 front-length (omega arith)
+
+  -- it is accepted
+  pub read-back : Readable (wordOf kind id p)
+  unfolding wordOf
+  read-back = record {
+    word-is = word-length;
+    spare-is = spare-is (filled p) 0 id kind 0 front-length;
+    crc-is = crc-is (filled p) 0 id kind 0 front-length;
+    version-is = version-is (filled p) 0 id kind 0 front-length (omega arith);
+    kind-is = rw kind-back k;
+  }
+
+  -- its header is told, with RFU zero
+  pub header-back : told (Fields 0 id kind) ≡ reading (wordOf kind id p)
+  header-back = tells-fields (wordOf kind id p) 0 id kind (read-0 (wordOf kind id p) read-back) (sym rfu-back) (sym id-back) (sym kind-back)
+
+  first : take (packetBytes kind) (wordOf kind id p) ≡ p
+  unfolding wordOf filled
+  first =
+      ap (take (packetBytes kind)) (append-assoc p (replicate (1532 - length p) 0) (pack 4 (closed (header (bits 4 0) id kind 0))))
+      ∙ take-at p (replicate (1532 - length p) 0 ++ pack 4 (closed (header (bits 4 0) id kind 0))) (packetBytes kind) n
+
+  -- its packet is shown
+  pub packet-back : shown (wordOf kind id p) ≡ p
+  packet-back =
+      sym (shows (wordOf kind id p) (packetBytes kind) (read-0 (wordOf kind id p) read-back) (ap packetBytes (sym kind-back))) ∙ first
+
+  -- and its header goes into 16 bytes
+  pub bytes-back : (out : List ℕ) → length out ≡ 16 → Is (readInto (wordOf kind id p) out) 0 (headerBytes 0 id kind 0)
+  bytes-back out h =
+      let e : headerBytes 0 id kind 0 ≡ headerBytes (rfuOf (wordOf kind id p)) (idOf (wordOf kind id p)) (kindOf (wordOf kind id p)) 0 =
+      cc (rfu-back, id-back, kind-back) in
+      into-done (wordOf kind id p) out h (read-0 (wordOf kind id p) read-back) (headerBytes 0 id kind 0) e
+
+-- a word of bytes that the reader accepts with RFU zero
+module _ (w : List ℕ) (a : Readable w) (b : Below 256 w) (z : rfuOf w ≡ 0) where
+  -- its last four bytes are those of the word that is written from its fields
+  pub ending-again : drop 1532 w ≡ pack 4 (closed (header (bits 4 0) (idOf w) (kindOf w) 0))
+  unfolding closed
+  ending-again =
+      let h : List ℕ = header (bits 4 0) (idOf w) (kindOf w) 0 in
+      let f : header (bits 4 (rfuOf w)) (idOf w) (kindOf w) (versionOf w) ≡ h = cc (z, a .version-is) in
+      let c : crcFieldOf w ≡ headerCrc h = a .crc-is ∙ ap headerCrc (covered-fields w (a .word-is) b ∙ f) in
+      last-fields w (a .word-is) b
+      ∙ ap₂ (λ (x : List ℕ) (y : ℕ). pack 4 (x ++ bits 8 (crcFieldOf w) ++ bits 6 y)) f (a .spare-is)
+      ∙ ap (λ (x : ℕ). pack 4 (h ++ bits 8 x ++ bits 6 0)) c
+
+  -- of stream type 1: it is that word
+  pub word-again : kindOf w ≡ 1 → w ≡ wordOf 1 (idOf w) (take 1532 w)
+  unfolding wordOf filled
+  word-again k =
+      let l : length (take 1532 w) ≡ 1532 = length-take-le 1532 w (omega (arith, a .word-is)) in
+      let e : take 1532 w ≡ take 1532 w ++ replicate (1532 - length (take 1532 w)) 0 =
+      sym (ap (λ (x : ℕ). take 1532 w ++ replicate (1532 - x) 0) l ∙ append-nil (take 1532 w)) in
+      sym (take-append-drop 1532 w)
+      ∙ ap₂ (λ (x y : List ℕ). x ++ y) e (ending-again ∙ ap (λ (x : ℕ). pack 4 (closed (header (bits 4 0) (idOf w) x 0))) k)
+
+  -- of any type, whatever the packet: the same last four bytes
+  pub suffix-again : (p : List ℕ) → length p ≤ 1532 → drop 1532 w ≡ drop 1532 (wordOf (kindOf w) (idOf w) p)
+  unfolding wordOf
+  suffix-again p n = ending-again ∙ sym (drop-at (filled p) (pack 4 (closed (header (bits 4 0) (idOf w) (kindOf w) 0))) 1532 (filled-length p n))
