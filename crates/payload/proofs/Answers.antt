@@ -12,9 +12,9 @@ use Rattle.ground.specs.Outcome.{Is, Told}
 use Rattle.ground.specs.Choice.{choose}
 use Rattle.ground.proofs.Choice.{choose-true, choose-false}
 use Rattle.payload.specs.Suffix.{idOf, kindOf, versionOf}
-use Rattle.payload.specs.Word.{packetBytes, rfuOf}
-use Rattle.payload.specs.Answers.{refusing, readRefusal, told, reading, shown, headerBytes, readInto}
-use Rattle.payload.proofs.Faults.{readable}
+use Rattle.payload.specs.Word.{packetBytes, rfuOf, wordOf}
+use Rattle.payload.specs.Answers.{refusing, writeRefusal, written, readRefusal, told, reading, shown, headerBytes, readInto}
+use Rattle.payload.proofs.Faults.{Writable, write-0, writable, readable}
 use Rattle.payload.specs.declared.Header.{Header}
 use Rattle.payload.specs.declared.Header.the-variants.{Fields, Refused}
 
@@ -99,3 +99,16 @@ told-inj (Fields a b c) (Fields a' b' c') e =
 told-inj (Fields a b c) (Refused n) e = absurd (let l : a ∷ b ∷ c ∷ [] ≡ [] = ap (λ (t : Told). t .values) e in let z : _≡_ {A = ℕ} 0 1 = cc in omega arith)
 told-inj (Refused n) (Fields a b c) e = absurd (let l : [] ≡ a ∷ b ∷ c ∷ [] = ap (λ (t : Told). t .values) e in let z : _≡_ {A = ℕ} 0 1 = cc in omega arith)
 told-inj (Refused n) (Refused n') e = ap Refused (ap (λ (t : Told). t .number) e)
+
+-- a write that is not refused answers 0 and leaves the word
+module _ (kind id : ℕ) (p w : List ℕ) (r : ℕ) (m : List ℕ) (o : Is (written kind id p w) r m) where
+  pub writes : Writable kind (length p) (length w) → (r ≡ 0) × (m ≡ wordOf kind id p)
+  unfolding written
+  writes a =
+      let e : 0 ≡ writeRefusal kind (length p) (length w) = write-0 kind (length p) (length w) a in
+      (o .answer ∙ sym e, o .memory ∙ chooses (writeRefusal kind (length p) (length w)) (wordOf kind id p) w (sym e))
+
+  -- and one that answered 0 was not refused
+  pub wrote : r ≡ 0 → Writable kind (length p) (length w)
+  unfolding written
+  wrote e = writable kind (length p) (length w) (sym (o .answer) ∙ e)

@@ -4,4 +4,6 @@ pub mod Writing
 pub mod Faults
 pub mod Answers
 pub mod WaysBack
+pub mod Damage
+pub mod Promised
 pub mod Agree

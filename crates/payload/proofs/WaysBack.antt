@@ -11,13 +11,13 @@ use Rattle.bits.specs.Lists.{bits, pack, Below}
 use Rattle.bits.proofs.Lists.{pack-length}
 use Rattle.payload.specs.Suffix.{idOf, kindOf, versionOf, crcFieldOf, spareOf, headerCrc, header, closed}
 use Rattle.payload.specs.Word.{packetBytes, filled, rfuOf, wordOf}
-use Rattle.payload.specs.Answers.{readRefusal, told, reading, shown, headerBytes, readInto}
+use Rattle.payload.specs.Answers.{written, told, reading, shown, headerBytes, readInto}
 use Rattle.payload.specs.declared.Header.the-variants.{Fields}
 use Rattle.payload.proofs.Stores.{filled-length}
 use Rattle.payload.proofs.LastBytes.{rfu-is, id-is, kind-is, version-is, spare-is, crc-is, covered-fields, last-fields}
 use Rattle.payload.proofs.Writing.{packet-le}
-use Rattle.payload.proofs.Faults.{Readable, read-0, readable}
-use Rattle.payload.proofs.Answers.{tells-fields, shows, into-done}
+use Rattle.payload.proofs.Faults.{Readable, read-0}
+use Rattle.payload.proofs.Answers.{tells-fields, shows, into-done, writes}
 
 -- a word that the writer writes
 module _ (kind id : ℕ) (p : List ℕ) (k : kind ≤ 1) (i : id < 256) (n : length p ≡ packetBytes kind) where
@@ -100,3 +100,24 @@ module _ (w : List ℕ) (a : Readable w) (b : Below 256 w) (z : rfuOf w ≡ 0) w
   pub suffix-again : (p : List ℕ) → length p ≤ 1532 → drop 1532 w ≡ drop 1532 (wordOf (kindOf w) (idOf w) p)
   unfolding wordOf
   suffix-again p n = ending-again ∙ sym (drop-at (filled p) (pack 4 (closed (header (bits 4 0) (idOf w) (kindOf w) 0))) 1532 (filled-length p n))
+
+  shown-is : shown w ≡ take (packetBytes (kindOf w)) w
+  shown-is = sym (shows w (packetBytes (kindOf w)) (read-0 w a) refl)
+
+  shown-length : length (shown w) ≡ packetBytes (kindOf w)
+  shown-length = ap length shown-is ∙ length-take-le (packetBytes (kindOf w)) w (omega (arith, a .word-is, packet-le (kindOf w)))
+
+  -- a write of the fields and of the payload that is shown, into 1,536 bytes, leaves the same last four bytes, and for stream type 1 the same word
+  pub write-again : (kind id : ℕ) (p out : List ℕ) (r : ℕ) (m : List ℕ) → kind ≡ kindOf w → id ≡ idOf w → p ≡ shown w → length out ≡ 1536
+      → Is (written kind id p out) r m → (r ≡ 0) × (drop 1532 m ≡ drop 1532 w) × (kind ≡ 1 → m ≡ w)
+  write-again kind id p out r m k i e n o =
+      let l : length p ≡ packetBytes (kindOf w) = ap length e ∙ shown-length in
+      let f = writes kind id p out r m o (record { kind-is = rw k (a .kind-is); packet-is = l ∙ ap packetBytes (sym k); word-is = n }) in
+      let same : wordOf kind id p ≡ wordOf (kindOf w) (idOf w) p = cc (k, i) in
+      let g : m ≡ wordOf (kindOf w) (idOf w) p = f .1 ∙ same in (
+        f .0,
+        ap (drop 1532) g ∙ sym (suffix-again p (omega (arith, packet-le (kindOf w)))),
+        λ one.
+            let t : p ≡ take 1532 w = e ∙ shown-is ∙ ap (λ (x : ℕ). take (packetBytes x) w) (sym k ∙ one) in
+            f .1 ∙ ap₂ (λ (x : ℕ) (y : List ℕ). wordOf x id y) one t ∙ ap (λ (x : ℕ). wordOf 1 x (take 1532 w)) i ∙ sym (word-again (sym k ∙ one)),
+      )
