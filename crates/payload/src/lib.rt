@@ -5,7 +5,7 @@ mod suffix;
 ghost use mathlib.Core.Path.{_≡_};
 ghost use lib.ListN.{length};
 ghost use Rattle.ground.specs.Outcome.{Is};
-ghost use Rattle.payload.specs.Answers.{writeRefusal, written, readRefusal, told, reading, shown, headerBytes, readInto};
+ghost use Rattle.payload.specs.Answers.{written, readRefusal, told, reading, shown, headerBytes, readInto};
 
 // What reading a word gives: the fields of its header, or the number of its refusal. Encap_Ver is 0 in a word that is accepted.
 pub enum Header {
@@ -13,27 +13,11 @@ pub enum Header {
     Refused(u8),
 }
 
-// The refusal of a write, by the stream type and the lent lengths.
-fn write_refusal(kind: u32, packet: usize, word: usize) -> u8
-    ensures { λ r. ⌜ r ≡ writeRefusal kind packet word ⌝ }
-{
-    if 1 < kind {
-        return 15;
-    }
-    if packet != packet::bytes(kind) {
-        return 1;
-    }
-    if word != 1536 {
-        return 1;
-    }
-    0
-}
-
 // Writes the payload word of a stream type (0 with an empty payload, 1 with 1,532 bytes) into 1,536 bytes and returns 0; a refusal touches nothing.
 pub fn write(kind: u32, id: u8, payload: &[u8], word: &mut [u8]) -> u8
     ensures { λ r. ⌜ Is (written kind id (now (payload .entry)) (now (word .entry))) r (now (word .exit)) ⌝ }
 {
-    let n = write_refusal(kind, payload.len(), word.len());
+    let n = packet::refusal(kind, payload.len(), word.len());
     if 0 < n {
         return n;
     }
@@ -59,19 +43,18 @@ fn read_refusal(word: &[u8]) -> u8
         return 16;
     }
     if 1 < suffix::field(word, 12268, 3) {
-        15
-    } else {
-        0
+        return 15;
     }
+    0
 }
 
 // Reads the header of a payload word.
 pub fn read(word: &[u8]) -> Header
     ensures { λ r. ⌜ told r ≡ reading (now (word .entry)) ⌝ }
 {
-    let n = read_refusal(word);
-    if 0 < n {
-        return Header::Refused(n);
+    let refusal = read_refusal(word);
+    if 0 < refusal {
+        return Header::Refused(refusal);
     }
     let rfu = bits::field(word, 12256, 4);
     let id = suffix::field(word, 12260, 8);

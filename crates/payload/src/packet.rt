@@ -1,9 +1,10 @@
-// The 1,532 bytes before the header.
+// The payload packet: its size by stream type, and the 1,532 bytes before the header that hold it.
 ghost use mathlib.Core.Path.{_≡_};
 ghost use mathlib.Core.List.{_++_};
 ghost use Prim.Native.Nat.{_≤_};
 ghost use lib.ListN.{length, getD, drop};
 ghost use Rattle.payload.specs.Word.{packetBytes, filled};
+ghost use Rattle.payload.specs.Answers.{writeRefusal};
 
 // How many bytes the payload packet of a stream type has.
 pub fn bytes(kind: u32) -> usize
@@ -11,6 +12,22 @@ pub fn bytes(kind: u32) -> usize
 {
     if kind == 1 {
         return 1532;
+    }
+    0
+}
+
+// The refusal of a write, by the stream type and the lengths of the packet and of the word.
+pub fn refusal(kind: u32, packet: usize, word: usize) -> u8
+    ensures { λ r. ⌜ r ≡ writeRefusal kind packet word ⌝ }
+{
+    if 1 < kind {
+        return 15;
+    }
+    if packet != bytes(kind) {
+        return 1;
+    }
+    if word != 1536 {
+        return 1;
     }
     0
 }

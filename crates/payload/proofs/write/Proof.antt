@@ -15,26 +15,26 @@ use Rattle.payload.proofs.write.Reads as reads
 use Rattle.payload.proofs.write.Lts as lts
 use Rattle.payload.proofs.packet.fill.Reads as fill-reads
 use Rattle.payload.proofs.suffix.close.Reads as close-reads
-use Rattle.payload.proofs.write_refusal.Reads as write-refusal-reads
+use Rattle.payload.proofs.packet.refusal.Reads as refusal-reads
 
 -- src/lib.rt:36:9
-write-refusal-requires : tie.Need-write-refusal-requires
-write-refusal-requires c κs = search needs
+refusal-requires : tie.Need-refusal-requires
+refusal-requires c κs = search needs
 
 -- src/lib.rt:38:9
 returns : tie.Need-returns
 unfolding written
 returns c =
     let k = c .before in
-    refused _ _ _ (k .write-refusal .result) (k .write-refusal .ensures) (omega (arith, c .if1 .taken))
+    refused _ _ _ (k .refusal .result) (k .refusal .ensures) (omega (arith, c .if1 .taken))
 
 -- what a write that is not refused has shown
 allowed : (c : tie.Else1) → let a = c .before .before .before .before .args in Writable (a .kind) (length (a .payload .now)) (length (a .word .now))
 allowed c =
     let k = c .before in
     let a = k .before .before .before .args in
-    let e : 0 ≡ k .write-refusal .result = omega (arith, c .if1 .left) in
-    writable (a .kind) (length (a .payload .now)) (length (a .word .now)) (sym (e ∙ k .write-refusal .ensures))
+    let e : 0 ≡ k .refusal .result = omega (arith, c .if1 .left) in
+    writable (a .kind) (length (a .payload .now)) (length (a .word .now)) (sym (e ∙ k .refusal .ensures))
 
 -- src/lib.rt:40:5
 fill-requires : tie.Need-fill-requires
@@ -73,8 +73,8 @@ returns-2 c =
     let f = allowed o in
     let s = o .before .before .before .before in
     let a = s .args in
-    let e : 0 ≡ o .before .write-refusal .result = omega (arith, o .if1 .left) in
-    done _ _ _ (p .close .last .0) (e ∙ o .before .write-refusal .ensures)
+    let e : 0 ≡ o .before .refusal .result = omega (arith, o .if1 .left) in
+    done _ _ _ (p .close .last .0) (e ∙ o .before .refusal .ensures)
     (laid (a .kind) (a .id) (a .payload .now) (a .word .now) (q .fill .last .1 .0) (p .close .last .0)
     (f .kind-is) (omega (arith, s .fits .id)) (omega (arith, packet-le (a .kind))) (q .fill .ensures) (p .close .ensures))
 
@@ -82,7 +82,7 @@ pub write-spec : {M : Type 1} → statement M
 write-spec =
     tie.close
     (tie.spec
-    write-refusal-requires
+    refusal-requires
     returns
     fill-requires
     mul-close

@@ -1,12 +1,12 @@
--- `payload::write_refusal` meets its contract. Assumes nothing.
+-- `payload::packet::refusal` meets its contract. Assumes nothing.
 use mathlib.Core.Path.{sym, _∙_}
 use native.Mathlib.Omega.{arith}
 use Rattle.payload.proofs.Faults.{write-15, write-1, write-1-word, write-0}
 use borrow.Author.Needs.{needs}
-use Rattle.payload.proofs.write_refusal.Statement.{statement}
-use Rattle.payload.proofs.write_refusal.Tie as tie
-use Rattle.payload.proofs.write_refusal.Reads as reads
-use Rattle.payload.proofs.write_refusal.Lts as lts
+use Rattle.payload.proofs.packet.refusal.Statement.{statement}
+use Rattle.payload.proofs.packet.refusal.Tie as tie
+use Rattle.payload.proofs.packet.refusal.Reads as reads
+use Rattle.payload.proofs.packet.refusal.Lts as lts
 use Rattle.payload.proofs.packet.bytes.Reads as bytes-reads
 
 -- src/lib.rt:21:9
@@ -39,5 +39,5 @@ returns-4 c =
     let a = b .before .before .args in
     write-0 (a .kind) (a .packet) (a .word) (record { kind-is = omega arith; packet-is = c .before .if2 .left ∙ b .bytes .ensures .0; word-is = c .if3 .left })
 
-pub write-refusal-spec : {M : Type 1} → statement M
-write-refusal-spec = tie.close (tie.spec returns bytes-requires returns-2 returns-3 returns-4)
+pub refusal-spec : {M : Type 1} → statement M
+refusal-spec = tie.close (tie.spec returns bytes-requires returns-2 returns-3 returns-4)
