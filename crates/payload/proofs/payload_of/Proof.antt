@@ -16,23 +16,18 @@ use Rattle.payload.proofs.payload_of.Lts as lts
 use Rattle.payload.proofs.packet.bytes.Reads as bytes-reads
 use Rattle.payload.proofs.read.Reads as read-reads
 
--- src/lib.rt:85:9
 read-requires : tie.Need-read-requires
 read-requires c κs = search needs
 
--- src/lib.rt:89:9
 enum-known-h : tie.Need-enum-known-h
 enum-known-h c = search needs
 
--- src/lib.rt:92:16
 enum-told : tie.Need-enum-told
 enum-told c = search needs
 
--- src/lib.rt:92:9
 slice-aggregate-result : tie.Need-slice-aggregate-result
 slice-aggregate-result c = search needs
 
--- src/lib.rt:92:9
 returns : tie.Need-returns
 returns c =
     let g = c .before .enum-told .given in
@@ -41,15 +36,12 @@ returns c =
     let f = refusal-told w (g .0 .0) (ap told (sym (g .1)) ∙ k .read .ensures) in
     shows-nothing w (g .0 .0) (f .0) (f .1)
 
--- src/lib.rt:94:27
 cast-bytes : tie.Need-cast-bytes
 cast-bytes c = search needs
 
--- src/lib.rt:94:9
 bytes-requires : tie.Need-bytes-requires
 bytes-requires c κs = search needs
 
--- src/lib.rt:95:5
 slice-aggregate-result-2 : tie.Need-slice-aggregate-result-2
 slice-aggregate-result-2 c =
     let h = c .before .before .before in
@@ -57,9 +49,8 @@ slice-aggregate-result-2 c =
     let k = h .before .before in
     let w = k .before .before .args .word .now in
     let f = fields-told w (g .0 .0) (g .0 .1 .0) (g .0 .1 .1 .0) (ap told (sym (g .1)) ∙ k .read .ensures) in
-    sym (length-take-le (c .before .bytes .result) w (omega (arith, readable w (sym (f .0)) .word-is, c .before .bytes .ensures .1)))
+    sym (length-take-le _ w (omega (arith, readable w (sym (f .0)) .word-is, c .before .bytes .ensures .1)))
 
--- src/lib.rt:82:1
 returns-2 : tie.Need-returns-2
 returns-2 c =
     let h = c .before .before .before in
@@ -67,7 +58,7 @@ returns-2 c =
     let k = h .before .before in
     let w = k .before .before .args .word .now in
     let f = fields-told w (g .0 .0) (g .0 .1 .0) (g .0 .1 .1 .0) (ap told (sym (g .1)) ∙ k .read .ensures) in
-    shows w (c .before .bytes .result) (f .0) (c .before .bytes .ensures .0 ∙ ap packetBytes (f .3))
+    shows w _ (f .0) (c .before .bytes .ensures .0 ∙ ap packetBytes (f .3))
 
 pub payload-of-spec : {M : Type 1} → statement M
 payload-of-spec =

@@ -10,39 +10,30 @@ use Rattle.payload.proofs.put_header.Reads as reads
 use Rattle.payload.proofs.put_header.Lts as lts
 use Rattle.payload.proofs.suffix.put32.Reads as put32-reads
 
--- src/lib.rt:104:5
 put32-requires : tie.Need-put32-requires
 put32-requires c κs = search needs
 
--- src/lib.rt:105:27
 mul-put32 : tie.Need-mul-put32
 mul-put32 c = search needs
 
--- src/lib.rt:105:51
 mul-put32-2 : tie.Need-mul-put32-2
 mul-put32-2 c = search needs
 
--- src/lib.rt:105:27
 add-put32 : tie.Need-add-put32
 add-put32 c = search needs
 
--- src/lib.rt:105:5
 put32-requires-2 : tie.Need-put32-requires-2
 put32-requires-2 c κs = search needs
 
--- src/lib.rt:106:5
 put32-requires-3 : tie.Need-put32-requires-3
 put32-requires-3 c κs = search needs
 
--- src/lib.rt:107:5
 put32-requires-4 : tie.Need-put32-requires-4
 put32-requires-4 c κs = search needs
 
--- src/lib.rt:100:1
 same-length : tie.Need-same-length
 same-length c = search needs
 
--- src/lib.rt:100:1
 returns : tie.Need-returns
 returns c =
     let c4 = c .before .before in

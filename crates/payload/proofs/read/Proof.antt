@@ -11,29 +11,23 @@ use Rattle.bits.proofs.field.Reads as field-reads
 use Rattle.payload.proofs.read_refusal.Reads as read-refusal-reads
 use Rattle.payload.proofs.suffix.field.Reads as suffix-field-reads
 
--- src/lib.rt:71:9
 read-refusal-requires : tie.Need-read-refusal-requires
 read-refusal-requires c κs = search needs
 
--- src/lib.rt:73:9
 returns : tie.Need-returns
 returns c =
     let k = c .before in
     tells-refusal (k .before .before .args .word .now) (k .read-refusal .result) (k .read-refusal .ensures) (omega (arith, c .if1 .taken))
 
--- src/lib.rt:75:9
 field-requires : tie.Need-field-requires
 field-requires c κs = search needs
 
--- src/lib.rt:76:9
 field-requires-2 : tie.Need-field-requires-2
 field-requires-2 c κs = search needs
 
--- src/lib.rt:77:9
 field-requires-3 : tie.Need-field-requires-3
 field-requires-3 c κs = search needs
 
--- src/lib.rt:68:1
 returns-2 : tie.Need-returns-2
 returns-2 c =
     let k = c .before .before .before .before in

@@ -15,42 +15,34 @@ use Rattle.payload.proofs.read_into.Lts as lts
 use Rattle.payload.proofs.put_header.Reads as put-header-reads
 use Rattle.payload.proofs.read.Reads as read-reads
 
--- src/lib.rt:115:9
 returns : tie.Need-returns
 returns c =
     let a = c .before .before .before .args in
-    into-room (a .word .now) (a .header .now) (c .if1 .taken)
+    into-room (a .word .now) (a .header .now) (λ e. omega (arith, c .if1 .taken))
 
--- src/lib.rt:117:9
 read-requires : tie.Need-read-requires
 read-requires c κs = search needs
 
--- src/lib.rt:119:25
 enum-known-h : tie.Need-enum-known-h
 enum-known-h c = search needs
 
--- src/lib.rt:120:26
 enum-known-h-2 : tie.Need-enum-known-h-2
 enum-known-h-2 c = search needs
 
--- src/lib.rt:121:13
 put-header-requires : tie.Need-put-header-requires
 put-header-requires c κs = search needs
 
--- src/lib.rt:111:1
 returns-2 : tie.Need-returns-2
 returns-2 c =
     let g = c .before .h .given in
     let k = c .before .before .before in
     let a = k .before .before .before .before .args in
     let f = refusal-told (a .word .now) (g .0 .0) (ap told (sym (g .1)) ∙ k .read .ensures) in
-    into-refused (a .word .now) (a .header .now) (k .before .if1 .left) (g .0 .0) (f .0) (f .1)
+    into-refused (a .word .now) (a .header .now) (omega (arith, k .before .if1 .left)) (g .0 .0) (f .0) (f .1)
 
--- src/lib.rt:111:1
 same-length : tie.Need-same-length
 same-length c = search needs
 
--- src/lib.rt:111:1
 returns-3 : tie.Need-returns-3
 returns-3 c =
     let p = c .before .before in
@@ -61,7 +53,7 @@ returns-3 c =
     let w : List ℕ = a .word .now in
     let f = fields-told w (g .0 .0) (g .0 .1 .0) (g .0 .1 .1 .0) (ap told (sym (g .1)) ∙ k .read .ensures) in
     let e : headerBytes (g .0 .0) (g .0 .1 .0) (g .0 .1 .1 .0) 0 ≡ headerBytes (rfuOf w) (idOf w) (kindOf w) 0 = cc (f .1, f .2, f .3) in
-    into-done w (a .header .now) (k .before .if1 .left) (f .0) (p .put-header .last .0) (p .put-header .ensures ∙ e)
+    into-done w (a .header .now) (omega (arith, k .before .if1 .left)) (f .0) (p .put-header .last .0) (p .put-header .ensures ∙ e)
 
 pub read-into-spec : {M : Type 1} → statement M
 read-into-spec =

@@ -13,7 +13,6 @@ use Rattle.payload.proofs.read_refusal.Lts as lts
 use Rattle.payload.proofs.suffix.crc.Reads as crc-reads
 use Rattle.payload.proofs.suffix.field.Reads as field-reads
 
--- src/lib.rt:50:9
 returns : tie.Need-returns
 returns c = read-1 (c .before .before .args .word .now) (c .if1 .taken)
 
@@ -27,25 +26,20 @@ spare c = sym (c .before .field .ensures) ∙ c .if2 .left
 crc-is : (c : tie.Else3) → let w = c .before .before .before .before .before .before .before .args .word .now in crcFieldOf w ≡ headerCrc (coveredOf w)
 crc-is c = sym (c .before .before .field2 .ensures) ∙ c .if3 .left ∙ c .before .crc .ensures
 
--- src/lib.rt:52:8
 field-requires : tie.Need-field-requires
 field-requires c κs = search needs
 
--- src/lib.rt:53:9
 returns-2 : tie.Need-returns-2
 returns-2 c =
     let o = c .before .before in
     read-2 (o .before .before .args .word .now) (len o) (λ e. c .if2 .taken (c .before .field .ensures ∙ e))
 
--- src/lib.rt:55:8
 field-requires-2 : tie.Need-field-requires-2
 field-requires-2 c κs = search needs
 
--- src/lib.rt:55:41
 crc-requires : tie.Need-crc-requires
 crc-requires c κs = search needs
 
--- src/lib.rt:56:9
 returns-3 : tie.Need-returns-3
 returns-3 c =
     let o = c .before .before .before in
@@ -53,11 +47,9 @@ returns-3 c =
     read-5 (l .before .before .args .word .now) (len l) (spare o)
     (λ e. c .if3 .taken (c .before .before .field2 .ensures ∙ e ∙ sym (c .before .crc .ensures)))
 
--- src/lib.rt:58:12
 field-requires-3 : tie.Need-field-requires-3
 field-requires-3 c κs = search needs
 
--- src/lib.rt:59:9
 returns-4 : tie.Need-returns-4
 returns-4 c =
     let k = c .before .before in
@@ -65,11 +57,9 @@ returns-4 c =
     let l = o .before .before in
     read-16 (l .before .before .args .word .now) (len l) (spare o) (crc-is k) (omega (arith, c .if4 .taken, c .before .field3 .ensures))
 
--- src/lib.rt:61:12
 field-requires-4 : tie.Need-field-requires-4
 field-requires-4 c κs = search needs
 
--- src/lib.rt:46:1
 returns-5 : tie.Need-returns-5
 returns-5 c =
     let v = c .before .before in
@@ -79,7 +69,6 @@ returns-5 c =
     read-15 (l .before .before .args .word .now) (len l) (spare o) (crc-is k)
     (omega (arith, v .if4 .left, v .before .field3 .ensures)) (omega (arith, c .if5 .taken, c .before .field4 .ensures))
 
--- src/lib.rt:46:1
 returns-6 : tie.Need-returns-6
 returns-6 c =
     let v = c .before .before in

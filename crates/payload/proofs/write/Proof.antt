@@ -17,11 +17,9 @@ use Rattle.payload.proofs.packet.fill.Reads as fill-reads
 use Rattle.payload.proofs.suffix.close.Reads as close-reads
 use Rattle.payload.proofs.packet.refusal.Reads as refusal-reads
 
--- src/lib.rt:36:9
 refusal-requires : tie.Need-refusal-requires
 refusal-requires c κs = search needs
 
--- src/lib.rt:38:9
 returns : tie.Need-returns
 unfolding written
 returns c =
@@ -36,34 +34,27 @@ allowed c =
     let e : 0 ≡ k .refusal .result = omega (arith, c .if1 .left) in
     writable (a .kind) (length (a .payload .now)) (length (a .word .now)) (sym (e ∙ k .refusal .ensures))
 
--- src/lib.rt:40:5
 fill-requires : tie.Need-fill-requires
 fill-requires c κs =
     let o = c .before in
     let f = allowed o in
     (omega (arith, packet-le (o .before .before .before .before .args .kind)), f .word-is)
 
--- src/lib.rt:41:25
 mul-close : tie.Need-mul-close
 mul-close c = search needs
 
--- src/lib.rt:41:42
 mul-close-2 : tie.Need-mul-close-2
 mul-close-2 c = omega (arith, allowed (c .before .before .before .before .before))
 
--- src/lib.rt:41:25
 add-close : tie.Need-add-close
 add-close c = omega (arith, allowed (c .before .before .before .before .before))
 
--- src/lib.rt:41:5
 close-requires : tie.Need-close-requires
 close-requires c κs = omega (arith, allowed (c .before .before .before .before .before))
 
--- src/lib.rt:33:1
 same-length : tie.Need-same-length
 same-length c = search needs
 
--- src/lib.rt:33:1
 returns-2 : tie.Need-returns-2
 unfolding written
 returns-2 c =

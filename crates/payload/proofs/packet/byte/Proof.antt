@@ -8,15 +8,12 @@ use Rattle.payload.proofs.packet.byte.Tie as tie
 use Rattle.payload.proofs.packet.byte.Reads as reads
 use Rattle.payload.proofs.packet.byte.Lts as lts
 
--- src/packet.rt:23:16
 shared-slice-read-result : tie.Need-shared-slice-read-result
 shared-slice-read-result c = search needs
 
--- src/packet.rt:23:9
 returns : tie.Need-returns
 returns c = search needs
 
--- src/packet.rt:19:1
 returns-2 : tie.Need-returns-2
 returns-2 c = sym (List·getD-eq-default (c .before .args .s .now) 0 (omega arith))
 

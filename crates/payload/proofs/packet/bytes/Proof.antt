@@ -7,11 +7,9 @@ use Rattle.payload.proofs.packet.bytes.Tie as tie
 use Rattle.payload.proofs.packet.bytes.Reads as reads
 use Rattle.payload.proofs.packet.bytes.Lts as lts
 
--- src/packet.rt:13:9
 returns : tie.Need-returns
 returns c = (simp (eq-eqb (c .before .args .kind) 1 (c .if1 .taken)), omega arith)
 
--- src/packet.rt:9:1
 returns-2 : tie.Need-returns-2
 returns-2 c = (simp (ne-eqb (c .before .args .kind) 1 (c .if1 .left)), omega arith)
 

@@ -20,15 +20,12 @@ Inv-loop packet word₀ i₀ word i = (i ≤ 1532) × (word ≡ over word₀ (fi
 abbrev μ-loop : tie.MeasureT-loop
 μ-loop packet word₀ i₀ word i = 1532 - i
 
--- src/packet.rt:34:5
 loop-holds : tie.Need-loop-holds Inv-loop μ-loop
 loop-holds c = (omega arith, refl)
 
--- src/packet.rt:35:19
 byte-requires : tie.Need-byte-requires Inv-loop μ-loop
 byte-requires c κs = search needs
 
--- src/packet.rt:35:9
 slice-write-word : tie.Need-slice-write-word Inv-loop μ-loop
 slice-write-word c =
     let s = c .before .before .before .before .before in
@@ -38,28 +35,25 @@ slice-write-word c =
     ap length (l .inv .1) ∙ over-length (s .args .word .now) (filled (s .args .packet .now)) (l .i) (omega arith) (omega arith) ∙ s .pre .1 in
     omega arith
 
--- src/packet.rt:36:9
 add-i : tie.Need-add-i Inv-loop μ-loop
 add-i c = search needs
 
--- src/packet.rt:34:5
 loop-less : tie.Need-loop-less Inv-loop μ-loop
 loop-less c = search needs
 
--- src/packet.rt:34:5
 loop-again : tie.Need-loop-again Inv-loop μ-loop
 loop-again c =
     let s = c .before .before .before .before .before in
     let l = c .before .before .loop in
     let p : List ℕ = s .args .packet .now in
     let w : List ℕ = s .args .word .now in
-    let n : length (filled p) ≡ 1532 = filled-length p (s .pre .0) in (
+    let n : length (filled p) ≡ 1532 = filled-length p (s .pre .0) in
+    let e : c .byte .result ≡ getD p (l .i) 0 = c .byte .ensures in (
       omega arith,
-      ap₂ (λ (x : List ℕ) (b : ℕ). set x (l .i) b) (l .inv .1) (c .byte .ensures ∙ sym (filled-at p (l .i)))
+      ap₂ (λ (x : List ℕ) (b : ℕ). set x (l .i) b) (l .inv .1) (e ∙ sym (filled-at p (l .i)))
           ∙ over-more w (filled p) (l .i) 0 (omega arith) (omega arith),
     )
 
--- src/packet.rt:29:1
 same-length : tie.Need-same-length Inv-loop μ-loop
 same-length c =
     let s = c .before .before .before .before in
@@ -67,7 +61,6 @@ same-length c =
     let n : length (filled (s .args .packet .now)) ≡ 1532 = filled-length (s .args .packet .now) (s .pre .0) in
     ap length (l .inv .1) ∙ over-length (s .args .word .now) (filled (s .args .packet .now)) (l .i) (omega arith) (omega arith)
 
--- src/packet.rt:29:1
 returns : tie.Need-returns Inv-loop μ-loop
 returns c =
     let s = c .before .before .before .before in

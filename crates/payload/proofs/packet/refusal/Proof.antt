@@ -9,35 +9,30 @@ use Rattle.payload.proofs.packet.refusal.Reads as reads
 use Rattle.payload.proofs.packet.refusal.Lts as lts
 use Rattle.payload.proofs.packet.bytes.Reads as bytes-reads
 
--- src/lib.rt:21:9
 returns : tie.Need-returns
 returns c =
     let a = c .before .args in
     write-15 (a .kind) (a .packet) (a .word) (omega arith)
 
--- src/lib.rt:23:18
 bytes-requires : tie.Need-bytes-requires
 bytes-requires c κs = search needs
 
--- src/lib.rt:24:9
 returns-2 : tie.Need-returns-2
 returns-2 c =
     let a = c .before .before .before .args in
     write-1 (a .kind) (a .packet) (a .word) (omega arith) (λ e. c .if2 .taken (e ∙ sym (c .before .bytes .ensures .0)))
 
--- src/lib.rt:27:9
 returns-3 : tie.Need-returns-3
 returns-3 c =
     let b = c .before .before in
     let a = b .before .before .args in
-    write-1-word (a .kind) (a .packet) (a .word) (omega arith) (c .before .if2 .left ∙ b .bytes .ensures .0) (c .if3 .taken)
+    write-1-word (a .kind) (a .packet) (a .word) (omega arith) (c .before .if2 .left ∙ b .bytes .ensures .0) (λ e. omega (arith, c .if3 .taken))
 
--- src/lib.rt:17:1
 returns-4 : tie.Need-returns-4
 returns-4 c =
     let b = c .before .before in
     let a = b .before .before .args in
-    write-0 (a .kind) (a .packet) (a .word) (record { kind-is = omega arith; packet-is = c .before .if2 .left ∙ b .bytes .ensures .0; word-is = c .if3 .left })
+    write-0 (a .kind) (a .packet) (a .word) (record { kind-is = omega arith; packet-is = c .before .if2 .left ∙ b .bytes .ensures .0; word-is = omega (arith, c .if3 .left) })
 
 pub refusal-spec : {M : Type 1} → statement M
 refusal-spec = tie.close (tie.spec returns bytes-requires returns-2 returns-3 returns-4)

@@ -12,43 +12,33 @@ use Rattle.payload.proofs.suffix.close.Lts as lts
 use Rattle.payload.proofs.suffix.crc.Reads as crc-reads
 use Rattle.payload.proofs.suffix.put32.Reads as put32-reads
 
--- src/suffix.rt:42:23
 mul-put32 : tie.Need-mul-put32
 mul-put32 c = search needs
 
--- src/suffix.rt:42:5
 put32-requires : tie.Need-put32-requires
 put32-requires c κs = search needs
 
--- src/suffix.rt:43:9
 crc-requires : tie.Need-crc-requires
 crc-requires c κs = search needs
 
--- src/suffix.rt:44:23
 mul-put32-2 : tie.Need-mul-put32-2
 mul-put32-2 c = search needs
 
--- src/suffix.rt:44:39
 cast-put32 : tie.Need-cast-put32
 cast-put32 c = search needs
 
--- src/suffix.rt:44:39
 mul-put32-3 : tie.Need-mul-put32-3
 mul-put32-3 c = search needs
 
--- src/suffix.rt:44:23
 add-put32 : tie.Need-add-put32
 add-put32 c = search needs
 
--- src/suffix.rt:44:5
 put32-requires-2 : tie.Need-put32-requires-2
 put32-requires-2 c κs = search needs
 
--- src/suffix.rt:37:1
 same-length : tie.Need-same-length
 same-length c = search needs
 
--- src/suffix.rt:37:1
 returns : tie.Need-returns
 returns c =
     let k = c .before .before .before .before in

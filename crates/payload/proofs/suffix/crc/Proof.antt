@@ -8,11 +8,9 @@ use Rattle.payload.proofs.suffix.crc.Reads as reads
 use Rattle.payload.proofs.suffix.crc.Lts as lts
 use Rattle.crc.proofs.crc8.Reads as crc8-reads
 
--- src/suffix.rt:22:5
 crc8-requires : tie.Need-crc8-requires
 crc8-requires c κs = search needs
 
--- src/suffix.rt:19:1
 returns : tie.Need-returns
 unfolding crc8Of covered coveredOf headerCrc
 returns c = c .crc8 .ensures

@@ -10,18 +10,15 @@ use Rattle.payload.proofs.suffix.field.Reads as reads
 use Rattle.payload.proofs.suffix.field.Lts as lts
 use Rattle.bits.proofs.field.Reads as field-reads
 
--- src/suffix.rt:15:5
 field-requires : tie.Need-field-requires
 field-requires c κs = search needs
 
--- src/suffix.rt:15:5
 cast-result : tie.Need-cast-result
 cast-result c =
     let a = c .before .before .args in
     let p : 2 ^ a .n ≤ 256 = pow-mono {i = a .n} {j = 8} (omega arith) in
     omega (arith, c .field .ensures, field-lt (a .word .now) (a .at) (a .n) (omega arith))
 
--- src/suffix.rt:11:1
 returns : tie.Need-returns
 returns c = search needs
 

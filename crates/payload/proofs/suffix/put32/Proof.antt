@@ -12,55 +12,42 @@ use Rattle.payload.proofs.suffix.put32.Tie as tie
 use Rattle.payload.proofs.suffix.put32.Reads as reads
 use Rattle.payload.proofs.suffix.put32.Lts as lts
 
--- src/suffix.rt:30:15
 cast-out : tie.Need-cast-out
 cast-out c = search needs
 
--- src/suffix.rt:30:5
 slice-write-out : tie.Need-slice-write-out
 slice-write-out c = search needs
 
--- src/suffix.rt:31:19
 cast-out-2 : tie.Need-cast-out-2
 cast-out-2 c = search needs
 
--- src/suffix.rt:31:9
 add-out : tie.Need-add-out
 add-out c = search needs
 
--- src/suffix.rt:31:5
 slice-write-out-2 : tie.Need-slice-write-out-2
 slice-write-out-2 c = simp length-set (omega arith)
 
--- src/suffix.rt:32:19
 cast-out-3 : tie.Need-cast-out-3
 cast-out-3 c = search needs
 
--- src/suffix.rt:32:9
 add-out-2 : tie.Need-add-out-2
 add-out-2 c = search needs
 
--- src/suffix.rt:32:5
 slice-write-out-3 : tie.Need-slice-write-out-3
 slice-write-out-3 c = simp length-set (omega arith)
 
--- src/suffix.rt:33:19
 cast-out-4 : tie.Need-cast-out-4
 cast-out-4 c = search needs
 
--- src/suffix.rt:33:9
 add-out-3 : tie.Need-add-out-3
 add-out-3 c = search needs
 
--- src/suffix.rt:33:5
 slice-write-out-4 : tie.Need-slice-write-out-4
 slice-write-out-4 c = simp length-set (omega arith)
 
--- src/suffix.rt:26:1
 same-length : tie.Need-same-length
 same-length c = search needs
 
--- src/suffix.rt:26:1
 returns : tie.Need-returns
 returns c =
     let a = c .args in
