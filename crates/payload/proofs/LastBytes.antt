@@ -15,6 +15,7 @@ use Rattle.bits.proofs.Numbers.{bits-join}
 use Rattle.crc.proofs.Laws.{crc-lt}
 use Rattle.payload.specs.Suffix.{idOf, kindOf, versionOf, crcFieldOf, spareOf, covered, coveredOf, headerCrc, header, closed}
 use Rattle.payload.specs.Word.{rfuOf}
+use Rattle.payload.specs.Steps.{sealed}
 
 header-crc-lt : (h : List ℕ) → headerCrc h < 256
 unfolding headerCrc
@@ -71,8 +72,8 @@ header-below rfu id kind version =
 
 -- a header that is closed over is the word's
 pub closed-word : (front h : List ℕ) → length front ≡ 1532 → length h ≡ 18 → Below 2 h
-    → front ++ pack 4 (h ++ bits 8 (headerCrc (coveredOf (front ++ pack 4 (h ++ bits 14 0)))) ++ bits 6 0) ≡ front ++ pack 4 (closed h)
-unfolding closed
+    → sealed front h ≡ front ++ pack 4 (closed h)
+unfolding sealed closed
 closed-word front h n m b =
     let s : List ℕ = h ++ bits 14 0 in
     let e : coveredOf (front ++ pack 4 s) ≡ h =

@@ -11,7 +11,9 @@ use Rattle.ground.proofs.Copy.{over}
 use Rattle.bits.specs.Lists.{bits, pack}
 use Rattle.bits.proofs.Lists.{pack-length}
 use Rattle.bits.proofs.Numbers.{bits-join, pack-32}
+use Rattle.payload.specs.Suffix.{coveredOf, headerCrc}
 use Rattle.payload.specs.Word.{filled}
+use Rattle.payload.specs.Steps.{sealed}
 use Rattle.payload.specs.Answers.{headerBytes}
 
 pub filled-length : (p : List ℕ) → length p ≤ 1532 → length (filled p) ≡ 1532
@@ -92,17 +94,13 @@ sixteen-are rfu id kind h k =
     ∙ append-assoc (pack 4 (bits 32 rfu) ++ (id ∷ kind ∷ 0 ∷ 0 ∷ [])) (0 ∷ 0 ∷ 0 ∷ 0 ∷ []) (0 ∷ 0 ∷ 0 ∷ 0 ∷ [])
     ∙ append-assoc (pack 4 (bits 32 rfu)) (id ∷ kind ∷ 0 ∷ 0 ∷ []) (0 ∷ 0 ∷ 0 ∷ 0 ∷ 0 ∷ 0 ∷ 0 ∷ 0 ∷ [])
 
--- 18 bits of header in the last four bytes, first with zeros behind them, and then with a CRC that is a function of the word so far
+-- the last four bytes: 18 bits of header with zeros behind them, and then with the CRC
 module _ (w : List ℕ) (head : ℕ) (h : length w ≡ 1536) where
-  last : (l : List ℕ) → take 1532 w ++ l ++ drop 1536 w ≡ take 1532 w ++ l
-  last l =
-      let k : length w ≤ 1536 = omega arith in
-      ap (λ (x : List ℕ). take 1532 w ++ l ++ x) (drop-of-length-le w k) ∙ append-nil (take 1532 w ++ l)
-
-  pub bare : take 1532 w ++ pack 4 (bits 32 (head * 0x4000)) ++ drop 1536 w ≡ take 1532 w ++ pack 4 (bits 18 head ++ bits 14 0)
+  bare : take 1532 w ++ pack 4 (bits 32 (head * 0x4000)) ++ drop 1536 w ≡ take 1532 w ++ pack 4 (bits 18 head ++ bits 14 0)
   bare =
-      last (pack 4 (bits 32 (head * 0x4000)))
-      ∙ ap (λ (l : List ℕ). take 1532 w ++ pack 4 l) (ap (bits 32) (omega arith) ∙ bits-join 18 14 head 0 (omega arith))
+      let k : length w ≤ 1536 = omega arith in
+      ap₂ (λ (x y : List ℕ). take 1532 w ++ pack 4 x ++ y) (ap (bits 32) (omega arith) ∙ bits-join 18 14 head 0 (omega arith)) (drop-of-length-le w k)
+      ∙ append-nil (take 1532 w ++ pack 4 (bits 18 head ++ bits 14 0))
 
   with-crc : (crc : ℕ) → crc < 256 → bits 32 (head * 0x4000 + crc * 0x40) ≡ bits 18 head ++ bits 8 crc ++ bits 6 0
   with-crc crc k =
@@ -110,11 +108,12 @@ module _ (w : List ℕ) (head : ℕ) (h : length w ≡ 1536) where
       ∙ ap (λ (l : List ℕ). bits 18 head ++ l) (ap (bits 14) (omega arith) ∙ bits-join 8 6 crc 0 (omega arith))
       ∙ sym (append-assoc (bits 18 head) (bits 8 crc) (bits 6 0))
 
-  pub closing : (f : List ℕ → ℕ) (w1 w2 : List ℕ) (crc : ℕ)
-      → w1 ≡ take 1532 w ++ pack 4 (bits 32 (head * 0x4000)) ++ drop 1536 w → crc ≡ f w1 → crc < 256
+  pub closing : (w1 w2 : List ℕ) (crc : ℕ)
+      → w1 ≡ take 1532 w ++ pack 4 (bits 32 (head * 0x4000)) ++ drop 1536 w → crc ≡ headerCrc (coveredOf w1) → crc < 256
       → w2 ≡ take 1532 w1 ++ pack 4 (bits 32 (head * 0x4000 + crc * 0x40)) ++ drop 1536 w1
-      → w2 ≡ take 1532 w ++ pack 4 (bits 18 head ++ bits 8 (f (take 1532 w ++ pack 4 (bits 18 head ++ bits 14 0))) ++ bits 6 0)
-  closing f w1 w2 crc e1 ec k e2 =
+      → w2 ≡ sealed (take 1532 w) (bits 18 head)
+  unfolding sealed
+  closing w1 w2 crc e1 ec k e2 =
       let b : w1 ≡ take 1532 w ++ pack 4 (bits 18 head ++ bits 14 0) = e1 ∙ bare in
       let t : length (take 1532 w) ≡ 1532 = length-take-le 1532 w (omega arith) in
       let n : length w1 ≤ 1536 = rw b (simp (length-append, pack-length) (omega arith)) in
@@ -123,4 +122,4 @@ module _ (w : List ℕ) (head : ℕ) (h : length w ≡ 1536) where
       ∙ ap₂ (λ (x y : List ℕ). x ++ pack 4 (bits 32 (head * 0x4000 + crc * 0x40)) ++ y) front (drop-of-length-le w1 n)
       ∙ append-nil (take 1532 w ++ pack 4 (bits 32 (head * 0x4000 + crc * 0x40)))
       ∙ ap (λ (l : List ℕ). take 1532 w ++ pack 4 l)
-      (with-crc crc k ∙ ap (λ (x : ℕ). bits 18 head ++ bits 8 x ++ bits 6 0) (ec ∙ ap f b))
+      (with-crc crc k ∙ ap (λ (x : ℕ). bits 18 head ++ bits 8 x ++ bits 6 0) (ec ∙ ap (λ (l : List ℕ). headerCrc (coveredOf l)) b))

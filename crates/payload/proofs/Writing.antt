@@ -10,8 +10,9 @@ use lib.ListN.{length, take, drop}
 use lib.Seq.{take-at}
 use Rattle.ground.specs.Choice.{choose}
 use Rattle.bits.specs.Lists.{bits, pack}
-use Rattle.payload.specs.Suffix.{coveredOf, headerCrc, header}
+use Rattle.payload.specs.Suffix.{header}
 use Rattle.payload.specs.Word.{packetBytes, filled, wordOf}
+use Rattle.payload.specs.Steps.{sealed}
 use Rattle.payload.proofs.Stores.{filled-length}
 use Rattle.payload.proofs.LastBytes.{header-number, header-length, header-below, closed-word}
 
@@ -26,8 +27,7 @@ packet-le kind = at (eqb kind 1)
 -- the packet, and then the header, with RFU and Encap_Ver zero
 pub laid : (kind id : ℕ) (p w w1 w2 : List ℕ) → kind ≤ 1 → id < 256 → length p ≤ 1532
     → w1 ≡ filled p ++ drop 1532 w
-    → w2 ≡ take 1532 w1 ++ pack 4 (bits 18 (id * 0x40 + kind * 8)
-    ++ bits 8 (headerCrc (coveredOf (take 1532 w1 ++ pack 4 (bits 18 (id * 0x40 + kind * 8) ++ bits 14 0)))) ++ bits 6 0)
+    → w2 ≡ sealed (take 1532 w1) (bits 18 (id * 0x40 + kind * 8))
     → w2 ≡ wordOf kind id p
 unfolding wordOf
 laid kind id p w w1 w2 k i n e1 e2 =
@@ -35,5 +35,5 @@ laid kind id p w w1 w2 k i n e1 e2 =
     let f : take 1532 w1 ≡ filled p = ap (take 1532) e1 ∙ take-at (filled p) (drop 1532 w) 1532 (filled-length p n) in
     let g : bits 18 (id * 0x40 + kind * 8) ≡ h = ap (bits 18) (omega arith) ∙ header-number 0 id kind 0 i (omega arith) (omega arith) in
     e2
-    ∙ ap₂ (λ (x y : List ℕ). x ++ pack 4 (y ++ bits 8 (headerCrc (coveredOf (x ++ pack 4 (y ++ bits 14 0)))) ++ bits 6 0)) f g
+    ∙ ap₂ sealed f g
     ∙ closed-word (filled p) h (filled-length p n) (header-length 0 id kind 0) (header-below 0 id kind 0)

@@ -6,6 +6,7 @@ ghost use lib.ListN.{length, take, drop};
 ghost use Rattle.bits.specs.Lists.{bits, pack};
 ghost use Rattle.bits.specs.Places.{fieldAt};
 ghost use Rattle.payload.specs.Suffix.{coveredOf, headerCrc};
+ghost use Rattle.payload.specs.Steps.{sealed};
 
 // A field of at most eight bits.
 pub fn field(word: &[u8], at: usize, n: usize) -> u8
@@ -36,8 +37,7 @@ pub fn put32(out: &mut [u8], at: usize, v: u32)
 // The last four bytes: 18 bits of header, the CRC that is due in the word with them, and the spare bits.
 pub fn close(word: &mut [u8], head: u32)
     requires { ⌜ (length (now word) ≡ 1536) × (head < 2 ^ 18) ⌝ }
-    ensures { λ _. ⌜ now (word .exit) ≡ take 1532 (now (word .entry)) ++ pack 4 (bits 18 head
-        ++ bits 8 (headerCrc (coveredOf (take 1532 (now (word .entry)) ++ pack 4 (bits 18 head ++ bits 14 0)))) ++ bits 6 0) ⌝ }
+    ensures { λ _. ⌜ now (word .exit) ≡ sealed (take 1532 (now (word .entry))) (bits 18 head) ⌝ }
 {
     put32(word, 1532, head * 0x4000);
     let crc = crc(word);

@@ -1,8 +1,5 @@
 -- `payload::suffix::close` meets its contract: the number is stored with no CRC, and then with the CRC over it. Assumes nothing.
-use Prim.Native.Nat.{ℕ}
-use mathlib.Core.List.{List}
 use native.Mathlib.Omega.{arith}
-use Rattle.payload.specs.Suffix.{coveredOf, headerCrc}
 use Rattle.payload.proofs.Stores.{closing}
 use borrow.Author.Needs.{needs}
 use Rattle.payload.proofs.suffix.close.Statement.{statement}
@@ -44,7 +41,7 @@ returns c =
     let k = c .before .before .before .before in
     let o = k .before .before .before .before in
     let s = o .before .before .before in
-    closing (s .args .word .now) (s .args .head) (s .pre .0) (λ (w : List ℕ). headerCrc (coveredOf w))
+    closing (s .args .word .now) (s .args .head) (s .pre .0)
     (o .put32 .last .0) (c .before .before .put322 .last .0) (k .crc .result)
     (o .put32 .ensures) (k .crc .ensures) (omega (arith, k .crc .ok)) (c .before .before .put322 .ensures)
 
