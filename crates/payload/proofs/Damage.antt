@@ -1,6 +1,6 @@
 -- One bit of the header that is changed changes its CRC, and has the word refused.
 -- Assumes nothing.
-use Prim.Native.Nat.{ℕ, _+_, _-_, _≤_, _<_}
+use Prim.Native.Nat.{ℕ, _+_, _≤_, _<_}
 use mathlib.Core.Path.{_≡_, refl, sym, ap, _∙_, subst}
 use mathlib.Core.List.{List}
 use native.Mathlib.Decide.{ℕ-discrete}
@@ -16,7 +16,7 @@ use Rattle.bits.proofs.Lists.{unpack-below}
 use Rattle.bits.proofs.Places.{bit-lt, number-cong, field-is}
 use Rattle.bits.proofs.Joined.{run-unpack}
 use Rattle.crc.proofs.Changes.{crc-changes}
-use Rattle.payload.specs.Suffix.{crcFieldOf, spareOf, covered, coveredOf, headerCrc}
+use Rattle.payload.specs.Suffix.{covered, coveredOf, headerCrc}
 use Rattle.payload.specs.Answers.{readRefusal}
 use Rattle.payload.proofs.Faults.{Readable, read-5}
 

@@ -2,7 +2,7 @@
 -- In a promise a number of a byte's type is any number, so that a stream id and the bytes of a word are said to be bytes where it matters.
 -- Assumes nothing.
 use Prim.Native.Nat.{ℕ, _+_, _<_}
-use mathlib.Core.Path.{_≡_, sym, ap, _∙_, subst}
+use mathlib.Core.Path.{_≡_, sym, ap, _∙_}
 use mathlib.Core.List.{List}
 use native.Mathlib.Omega.{arith}
 use contract.Lifetimes.{Lfts}
@@ -11,16 +11,14 @@ use borrow.Fn.Kinds.{endedOf}
 use denote.Ref.{now}
 use denote.Triple.Clauses.{AtExit}
 use lib.ListN.{length, drop}
-use Rattle.ground.specs.Outcome.{Is}
-use Rattle.ground.proofs.Outcome.{agree}
 use Rattle.bits.specs.Lists.{Below}
 use Rattle.bits.specs.Places.{bitAt}
 use Rattle.payload.specs.Word.{wordOf}
-use Rattle.payload.specs.Answers.{told, reading, shown, headerBytes, readInto}
+use Rattle.payload.specs.Answers.{told, reading, shown, headerBytes}
 use Rattle.payload.specs.declared.Header.the-variants.{Fields, Refused}
 use Rattle.payload.proofs.Faults.{Writable, readable}
 use Rattle.payload.proofs.Answers.{tells-refusal, fields-told, told-inj, writes, wrote}
-use Rattle.payload.proofs.WaysBack.{header-back, packet-back, bytes-back, write-again}
+use Rattle.payload.proofs.WaysBack.{header-back, packet-back, header-after, write-again}
 use Rattle.payload.proofs.Damage.{damaged}
 use Rattle.payload.proofs.write as write
 use Rattle.payload.proofs.write.Kinds as write-kinds
@@ -64,9 +62,8 @@ module _ (κs : Lfts 2) (a : ArgsD write.signature κs) (r : ResD write.signatur
       → now (b .0) ≡ now (s .1 .1 .1 .0) → length (now (b .1 .0)) ≡ 16 → read-into-reads.Post κt b n t
       → (n ≡ 0) × (now (t .1 .0) ≡ headerBytes 0 (a .1 .0) (a .0) 0)
   read-into-after-write κt b n t e l p =
-      let o : Is (readInto (now (b .0)) (now (b .1 .0))) n (now (t .1 .0)) = p in
-      agree o (subst (λ (w : List ℕ). Is (readInto w (now (b .1 .0))) 0 (headerBytes 0 (a .1 .0) (a .0) 0)) (sym (e ∙ left))
-      (bytes-back (a .0) (a .1 .0) (now (a .1 .1 .0)) (could .kind-is) byte (could .packet-is) (now (b .1 .0)) l))
+      header-after (a .0) (a .1 .0) (now (a .1 .1 .0)) (now (a .1 .1 .1 .0)) (now (s .1 .1 .1 .0)) r did zero byte
+      (now (b .0)) (now (b .1 .0)) (now (t .1 .0)) n e l p
 
 -- after a call read(word) that gave RFU 0, id and kind
 module _ (κs : Lfts 1) (a : ArgsD read.signature κs) (h : ResD read.signature κs) (s : AtExit (endedOf 1 read-kinds.ps read-kinds.r) κs)

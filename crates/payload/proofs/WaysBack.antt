@@ -1,23 +1,24 @@
 -- The ways back, over the definitions: what the reader makes of a written word, and which words the writer writes.
 -- Assumes nothing.
-use Prim.Native.Nat.{ℕ, _+_, _-_, _≤_, _<_}
-use mathlib.Core.Path.{_≡_, refl, sym, ap, ap₂, _∙_}
-use mathlib.Core.List.{List, [], _∷_, _++_, append-assoc, append-nil}
+use Prim.Native.Nat.{ℕ, _-_, _≤_, _<_}
+use mathlib.Core.Path.{_≡_, refl, sym, ap, ap₂, _∙_, subst}
+use mathlib.Core.List.{List, _++_, append-assoc, append-nil}
 use native.Mathlib.Omega.{arith}
-use lib.ListN.{length, take, drop, replicate, length-append, take-append-drop, length-drop}
+use lib.ListN.{length, take, drop, replicate, length-append, take-append-drop}
 use lib.Seq.{take-at, drop-at, length-take-le}
 use Rattle.ground.specs.Outcome.{Is}
+use Rattle.ground.proofs.Outcome.{agree}
 use Rattle.bits.specs.Lists.{bits, pack, Below}
 use Rattle.bits.proofs.Lists.{pack-length}
-use Rattle.payload.specs.Suffix.{idOf, kindOf, versionOf, crcFieldOf, spareOf, headerCrc, header, closed}
+use Rattle.payload.specs.Suffix.{idOf, kindOf, versionOf, crcFieldOf, headerCrc, header, closed}
 use Rattle.payload.specs.Word.{packetBytes, filled, rfuOf, wordOf}
 use Rattle.payload.specs.Answers.{written, told, reading, shown, headerBytes, readInto}
 use Rattle.payload.specs.declared.Header.the-variants.{Fields}
 use Rattle.payload.proofs.Stores.{filled-length}
 use Rattle.payload.proofs.LastBytes.{rfu-is, id-is, kind-is, version-is, spare-is, crc-is, covered-fields, last-fields}
 use Rattle.payload.proofs.Writing.{packet-le}
-use Rattle.payload.proofs.Faults.{Readable, read-0}
-use Rattle.payload.proofs.Answers.{tells-fields, shows, into-done, writes}
+use Rattle.payload.proofs.Faults.{Writable, Readable, read-0}
+use Rattle.payload.proofs.Answers.{tells-fields, shows, into-done, writes, wrote}
 
 -- a word that the writer writes
 module _ (kind id : ℕ) (p : List ℕ) (k : kind ≤ 1) (i : id < 256) (n : length p ≡ packetBytes kind) where
@@ -72,6 +73,14 @@ module _ (kind id : ℕ) (p : List ℕ) (k : kind ≤ 1) (i : id < 256) (n : len
       let e : headerBytes 0 id kind 0 ≡ headerBytes (rfuOf (wordOf kind id p)) (idOf (wordOf kind id p)) (kindOf (wordOf kind id p)) 0 =
       cc (rfu-back, id-back, kind-back) in
       into-done (wordOf kind id p) out h (read-0 (wordOf kind id p) read-back) (headerBytes 0 id kind 0) e
+
+-- after a write that answered 0, reading the header into 16 bytes answers 0 and leaves RFU 0, the id and the type that were written
+pub header-after : (kind id : ℕ) (p word m : List ℕ) (r : ℕ) → Is (written kind id p word) r m → r ≡ 0 → id < 256
+    → (w out h : List ℕ) (n : ℕ) → w ≡ m → length out ≡ 16 → Is (readInto w out) n h → (n ≡ 0) × (h ≡ headerBytes 0 id kind 0)
+header-after kind id p word m r o z i w out h n e l q =
+    let a : Writable kind (length p) (length word) = wrote kind id p word r m o z in
+    let f : w ≡ wordOf kind id p = e ∙ writes kind id p word r m o a .1 in
+    agree q (subst (λ (x : List ℕ). Is (readInto x out) 0 (headerBytes 0 id kind 0)) (sym f) (bytes-back kind id p (a .kind-is) i (a .packet-is) out l))
 
 -- a word of bytes that the reader accepts with RFU zero
 module _ (w : List ℕ) (a : Readable w) (b : Below 256 w) (z : rfuOf w ≡ 0) where

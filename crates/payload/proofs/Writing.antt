@@ -1,7 +1,7 @@
 -- Laws of a word that is written: the packet's size, and the steps that lead to the word.
 -- Assumes nothing.
 use Prim.Native.Nat.{ℕ, _+_, _*_, _≤_, _<_}
-use mathlib.Core.Path.{_≡_, refl, sym, ap, ap₂, _∙_}
+use mathlib.Core.Path.{_≡_, ap, ap₂, _∙_}
 use mathlib.Core.Bool.{Bool, true, false}
 use mathlib.Core.List.{List, _++_}
 use native.Mathlib.Omega.{arith}
@@ -9,7 +9,7 @@ use lib.Dec.{eqb}
 use lib.ListN.{length, take, drop}
 use lib.Seq.{take-at}
 use Rattle.ground.specs.Choice.{choose}
-use Rattle.bits.specs.Lists.{bits, pack}
+use Rattle.bits.specs.Lists.{bits}
 use Rattle.payload.specs.Suffix.{header}
 use Rattle.payload.specs.Word.{packetBytes, filled, wordOf}
 use Rattle.payload.specs.Steps.{sealed}

@@ -1,11 +1,9 @@
 -- `payload::payload_of` meets its contract. Assumes nothing.
-use Prim.Native.Nat.{_≤_}
-use mathlib.Core.Path.{_≡_, sym, ap, _∙_}
+use mathlib.Core.Path.{sym, ap, _∙_}
 use native.Mathlib.Omega.{arith}
-use lib.ListN.{length}
 use lib.Seq.{length-take-le}
 use Rattle.payload.specs.Word.{packetBytes}
-use Rattle.payload.specs.Answers.{told, readRefusal}
+use Rattle.payload.specs.Answers.{told}
 use Rattle.payload.proofs.Faults.{readable}
 use Rattle.payload.proofs.Answers.{refusal-told, fields-told, shows, shows-nothing}
 use borrow.Author.Needs.{needs}

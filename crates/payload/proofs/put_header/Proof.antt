@@ -1,5 +1,5 @@
 -- `payload::put_header` meets its contract: four numbers fill the 16 bytes. Assumes nothing.
-use Prim.Native.Nat.{ℕ, _+_, _*_}
+use Prim.Native.Nat.{_+_, _*_}
 use mathlib.Core.Path.{_∙_}
 use native.Mathlib.Omega.{arith}
 use Rattle.payload.proofs.Stores.{sixteen, sixteen-are}

@@ -1,9 +1,8 @@
 -- `payload::read_refusal` meets its contract. Assumes nothing.
-use Prim.Native.Nat.{_≤_, _<_}
 use mathlib.Core.Path.{_≡_, sym, _∙_}
 use native.Mathlib.Omega.{arith}
 use lib.ListN.{length}
-use Rattle.payload.specs.Suffix.{kindOf, versionOf, crcFieldOf, spareOf, coveredOf, headerCrc}
+use Rattle.payload.specs.Suffix.{crcFieldOf, spareOf, coveredOf, headerCrc}
 use Rattle.payload.proofs.Faults.{read-1, read-2, read-5, read-16, read-15, read-0}
 use borrow.Author.Needs.{needs}
 use Rattle.payload.proofs.read_refusal.Statement.{statement}

@@ -1,10 +1,8 @@
 -- `payload::write` meets its contract. Assumes nothing.
-use Prim.Native.Nat.{ℕ, _+_, _*_, _≤_, _<_}
-use mathlib.Core.Path.{_≡_, sym, ap, _∙_}
-use mathlib.Core.List.{List}
+use mathlib.Core.Path.{_≡_, sym, _∙_}
 use native.Mathlib.Omega.{arith}
 use lib.ListN.{length}
-use Rattle.payload.specs.Answers.{written, writeRefusal}
+use Rattle.payload.specs.Answers.{written}
 use Rattle.payload.proofs.Faults.{Writable, writable}
 use Rattle.payload.proofs.Writing.{packet-le, laid}
 use Rattle.payload.proofs.Answers.{refused, done}

@@ -1,5 +1,4 @@
 -- `payload::packet::bytes` meets its contract. Assumes nothing.
-use mathlib.Core.Path.{refl}
 use native.Mathlib.Omega.{arith}
 use borrow.Author.Tests.{eq-eqb, ne-eqb}
 use Rattle.payload.proofs.packet.bytes.Statement.{statement}
