@@ -13,6 +13,12 @@ use Rattle.opl.proofs.opl_preamble.Reads as opl-preamble-reads
 use Rattle.opl.proofs.opl_signalling_read as opl-signalling-read
 use Rattle.opl.proofs.opl_signalling_read.Kinds as opl-signalling-read-kinds
 use Rattle.opl.proofs.opl_signalling_read.Reads as opl-signalling-read-reads
+use Rattle.opl.proofs.opl_payload_write as opl-payload-write
+use Rattle.opl.proofs.opl_payload_write.Kinds as opl-payload-write-kinds
+use Rattle.opl.proofs.opl_payload_write.Reads as opl-payload-write-reads
+use Rattle.opl.proofs.opl_payload_read as opl-payload-read
+use Rattle.opl.proofs.opl_payload_read.Kinds as opl-payload-read-kinds
+use Rattle.opl.proofs.opl_payload_read.Reads as opl-payload-read-reads
 
 module _ (κs : Lfts 1) (a : ArgsD opl-preamble.signature κs) where
   pub opl-preamble-agrees : (r r′ : ResD opl-preamble.signature κs) (s s′ : AtExit (endedOf 1 opl-preamble-kinds.ps opl-preamble-kinds.r) κs) →
@@ -23,3 +29,13 @@ module _ (κs : Lfts 2) (a : ArgsD opl-signalling-read.signature κs) where
   pub opl-signalling-read-agrees : (r r′ : ResD opl-signalling-read.signature κs) (s s′ : AtExit (endedOf 2 opl-signalling-read-kinds.ps opl-signalling-read-kinds.r) κs) →
       opl-signalling-read-reads.Post κs a r s → opl-signalling-read-reads.Post κs a r′ s′ → (r ≡ r′) × (now (s .1 .0) ≡ now (s′ .1 .0))
   opl-signalling-read-agrees r r′ s s′ p q = agree p q
+
+module _ (κs : Lfts 2) (a : ArgsD opl-payload-write.signature κs) where
+  pub opl-payload-write-agrees : (r r′ : ResD opl-payload-write.signature κs) (s s′ : AtExit (endedOf 2 opl-payload-write-kinds.ps opl-payload-write-kinds.r) κs) →
+      opl-payload-write-reads.Post κs a r s → opl-payload-write-reads.Post κs a r′ s′ → (r ≡ r′) × (now (s .1 .1 .1 .0) ≡ now (s′ .1 .1 .1 .0))
+  opl-payload-write-agrees r r′ s s′ p q = agree p q
+
+module _ (κs : Lfts 2) (a : ArgsD opl-payload-read.signature κs) where
+  pub opl-payload-read-agrees : (r r′ : ResD opl-payload-read.signature κs) (s s′ : AtExit (endedOf 2 opl-payload-read-kinds.ps opl-payload-read-kinds.r) κs) →
+      opl-payload-read-reads.Post κs a r s → opl-payload-read-reads.Post κs a r′ s′ → (r ≡ r′) × (now (s .1 .0) ≡ now (s′ .1 .0))
+  opl-payload-read-agrees r r′ s s′ p q = agree p q
