@@ -8,3 +8,5 @@ pub mod Readings
 pub mod Told
 pub mod Agree
 pub mod Demand
+pub mod Headers
+pub mod Stated
