@@ -8,3 +8,4 @@ pub mod Readings
 pub mod Told
 pub mod Agree
 pub mod Demand
+pub mod Rasters
