@@ -1,3 +1,17 @@
+-- `signalling::raster::lay` meets its contract: the parts stand one behind the other, the zeros behind them reach bit 750, and the CRC of
+-- those bits is put behind them. Assumes nothing.
+use Prim.Native.Nat.{ℕ, _*_}
+use mathlib.Core.Path.{_≡_, refl, ap, _∙_}
+use mathlib.Core.List.{List}
+use lib.ListN.{length, replicate}
+use Rattle.bits.specs.Lists.{unpack}
+use Rattle.bits.proofs.Lists.{unpack-below, unpack-length, pack-length}
+use Rattle.description.specs.Description.{Lists}
+use Rattle.description.specs.Rules.{size}
+use Rattle.description.specs.Layout.{body, padded, sealed}
+use Rattle.description.specs.Form1.{sheetLists}
+use Rattle.signalling.proofs.Fill.{Front}
+use Rattle.signalling.proofs.Rasters.{laid, laid-below, laid-sealed, sealed-bits, sealed-word}
 use borrow.Author.Needs.{needs}
 use Rattle.signalling.proofs.raster.lay.Statement.{statement}
 use Rattle.signalling.proofs.raster.lay.Tie as tie
@@ -8,6 +22,54 @@ use Rattle.signalling.proofs.raster.pack_all.Reads as pack-all-reads
 use Rattle.signalling.proofs.raster.put.Reads as put-reads
 use Rattle.signalling.proofs.raster.spread.Reads as spread-reads
 use Rattle.signalling.proofs.raster.spread_sections.Reads as spread-sections-reads
+
+-- the lists of the sheet, and their size
+abbrev listsAt : tie.Start → Lists
+listsAt o = sheetLists (o .args .p) (o .args .s) (o .args .d) (unpack (o .args .sheet .now))
+
+abbrev sizeAt : tie.Start → ℕ
+sizeAt o = size (o .args .p) (o .args .s) (o .args .d)
+
+-- the places: the last part is laid, the raster is packed, the CRC is put
+abbrev from-laid : tie.After-spread-sections → tie.Start
+from-laid c = c .before .before .before .before .before .before .before .before .before .before .before .before .before .before .before .before
+
+abbrev from-packed : tie.After-pack-all → tie.After-spread-sections
+from-packed c = c .before .before .before .before
+
+abbrev from-put : tie.After-put → tie.After-pack-all
+from-put c = c .before .before .before .before .before .before
+
+-- the raster holds the body of the lists, and zeros
+laid-at : (c : tie.After-spread-sections)
+    → Front (replicate 768 0) (body (listsAt (from-laid c))) (sizeAt (from-laid c)) (c .spread-sections .last .1 .1 .1 .0)
+laid-at c =
+    let n4 = c .before .before .before in
+    let n3 = n4 .before .before .before in
+    let n2 = n3 .before .before .before in
+    let n1 = n2 .before .before .before in
+    let a = from-laid c .args in
+    let w : List ℕ = a .sheet .now in
+    let l : length (unpack w) ≡ 8 * length w = unpack-length w in
+    laid (unpack w) (a .p) (a .s) (a .d) (unpack-below w) (l ∙ ap (λ (n : ℕ). 8 * n) (from-laid c .pre .sheet)) (replicate 768 0)
+    (n1 .spread .ensures) (n2 .spread2 .ensures) (n3 .spread3 .ensures) (n4 .spread4 .ensures) (c .spread-sections .ensures)
+
+packed-at : (c : tie.After-pack-all) → length (c .pack-all .last .1 .0) ≡ 96
+packed-at c =
+    let l = from-packed c in
+    let a = from-laid l in
+    ap length (c .pack-all .ensures) ∙ pack-length (length (a .args .word .now)) (l .spread-sections .last .1 .1 .1 .0) ∙ a .pre .room
+
+abbrev listsPut : tie.After-put → Lists
+listsPut c = listsAt (from-laid (from-packed (from-put c)))
+
+-- with the CRC, it is sealed
+sealed-at : (c : tie.After-put) → c .put .last .0 ≡ sealed (padded (body (listsPut c)))
+sealed-at c =
+    let l = from-packed (from-put c) in
+    let o = from-laid l in
+    laid-sealed 768 refl (listsAt o) (sizeAt o) (o .pre .fits) (l .spread-sections .last .1 .1 .1 .0) (laid-at l)
+    (o .pre .room) (from-put c .pack-all .ensures) (c .before .before .crc12 .ensures) (c .put .ensures)
 
 -- src/raster.rt:81:27
 slice-aggregate-spread : tie.Need-slice-aggregate-spread
@@ -119,7 +181,10 @@ slice-aggregate-pack-all c = search needs
 
 -- src/raster.rt:92:5
 pack-all-requires : tie.Need-pack-all-requires
-pack-all-requires c κs = ?
+pack-all-requires c κs =
+    let l = c .before .before .before in
+    let o = from-laid l in
+    (search needs, search needs, laid-below 768 refl (listsAt o) (sizeAt o) (o .pre .fits) (l .spread-sections .last .1 .1 .1 .0) (laid-at l))
 
 -- src/raster.rt:93:15
 crc12-requires : tie.Need-crc12-requires
@@ -143,7 +208,10 @@ slice-aggregate-pack-all-2 c = search needs
 
 -- src/raster.rt:95:5
 pack-all-requires-2 : tie.Need-pack-all-requires-2
-pack-all-requires-2 c κs = ?
+pack-all-requires-2 c κs =
+    let n = c .before .before .before in
+    let e = packed-at (from-put n) in
+    (search needs, search needs, sealed-bits (listsPut n) (sealed-at n))
 
 -- src/raster.rt:76:1
 same-length : tie.Need-same-length
@@ -151,7 +219,10 @@ same-length c = search needs
 
 -- src/raster.rt:76:1
 returns : tie.Need-returns
-returns c = ?
+returns c =
+    let q = c .before .before in
+    let n = q .before .before .before .before in
+    sealed-word (listsPut n) (sealed-at n) (packed-at (from-put n)) (q .pack-all2 .ensures)
 
 pub lay-spec : {M : Type 1} → statement M
 lay-spec =
