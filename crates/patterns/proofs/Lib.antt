@@ -1,2 +1,7 @@
 pub mod Rates
+pub mod Groups
+pub mod Packed
+pub mod Totals
+pub mod Spread
+pub mod Length
 pub mod Agree

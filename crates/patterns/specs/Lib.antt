@@ -1,1 +1,4 @@
 pub mod Rates
+pub mod Rows
+pub mod Sent
+pub mod Walk

@@ -1,4 +1,6 @@
 // The puncturing patterns of the turbo code.
+pub mod rows;
+
 ghost use mathlib.Core.Path.{_≡_};
 ghost use Rattle.patterns.specs.Rates.{unitsOf};
 
