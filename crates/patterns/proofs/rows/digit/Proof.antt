@@ -11,11 +11,9 @@ use Rattle.patterns.proofs.rows.digit.Tie as tie
 use Rattle.patterns.proofs.rows.digit.Reads as reads
 use Rattle.patterns.proofs.rows.digit.Lts as lts
 
--- src/rows.rt:127:16
 cast-result : tie.Need-cast-result
 cast-result c = search needs
 
--- src/rows.rt:127:9
 returns : tie.Need-returns
 unfolding digit
 returns c =
@@ -23,23 +21,18 @@ returns c =
     let e : 4 - a .s ≡ 0 = omega arith in
     sym (ap (λ (m : ℕ). a .group / 8 ^ m % 8) e ∙ ap (λ (x : ℕ). x % 8) (div-one (a .group)))
 
--- src/rows.rt:129:17
 mul-result : tie.Need-mul-result
 mul-result c = search needs
 
--- src/rows.rt:129:17
 cast-result-2 : tie.Need-cast-result-2
 cast-result-2 c = search needs
 
--- src/rows.rt:129:7
 shr-result : tie.Need-shr-result
 shr-result c = search needs
 
--- src/rows.rt:129:5
 cast-result-3 : tie.Need-cast-result-3
 cast-result-3 c = search needs
 
--- src/rows.rt:123:1
 returns-2 : tie.Need-returns-2
 unfolding digit
 returns-2 c =

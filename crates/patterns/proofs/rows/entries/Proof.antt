@@ -30,54 +30,42 @@ stored p j h l =
     ap₂ (λ (x y : ℕ). entryFrom x y j) (getD-tab dataNumber 0 0 28 p h ∙ ap dataNumber (zero-add p)) (getD-tab tailNumber 0 0 28 p h ∙ ap tailNumber (zero-add p))
     ∙ entry-is p j h l
 
--- src/rows.rt:99:9
 returns : tie.Need-returns Inv-loop μ-loop
 unfolding entries tab
 returns c =
     let p : ℕ = c .before .args .pattern in
     sym (tab-cong (groupAt p 12) (λ k. 0) 0 18 (λ k l. group-none p 12 (0 + k) (c .if1 .taken)))
 
--- src/rows.rt:102:5
 loop-holds : tie.Need-loop-holds Inv-loop μ-loop
 loop-holds c = (omega arith, refl, below-none _)
 
--- src/rows.rt:103:27
 mul-entry-from : tie.Need-mul-entry-from Inv-loop μ-loop
 mul-entry-from c = search needs
 
--- src/rows.rt:103:27
 array-read-entry-from : tie.Need-array-read-entry-from Inv-loop μ-loop
 array-read-entry-from c = search needs
 
--- src/rows.rt:103:42
 mul-entry-from-2 : tie.Need-mul-entry-from-2 Inv-loop μ-loop
 mul-entry-from-2 c = search needs
 
--- src/rows.rt:103:42
 array-read-entry-from-2 : tie.Need-array-read-entry-from-2 Inv-loop μ-loop
 array-read-entry-from-2 c = search needs
 
--- src/rows.rt:103:16
 entry-from-requires : tie.Need-entry-from-requires Inv-loop μ-loop
 entry-from-requires c κs = search needs
 
--- src/rows.rt:103:9
 mul-t : tie.Need-mul-t Inv-loop μ-loop
 mul-t c = search needs
 
--- src/rows.rt:103:9
 array-write-t : tie.Need-array-write-t Inv-loop μ-loop
 array-write-t c = search needs
 
--- src/rows.rt:104:9
 add-j : tie.Need-add-j Inv-loop μ-loop
 add-j c = search needs
 
--- src/rows.rt:102:5
 loop-less : tie.Need-loop-less Inv-loop μ-loop
 loop-less c = search needs
 
--- src/rows.rt:102:5
 loop-again : tie.Need-loop-again Inv-loop μ-loop
 unfolding tab dataNumber tailNumber digits digit dataGroup dataRows tailRows
 loop-again c =
@@ -87,7 +75,6 @@ loop-again c =
     let e : c .entry-from .result ≡ entryFrom (getD (tab dataNumber 0 28) p 0) (getD (tab tailNumber 0 28) p 0) (l .j) = c .entry-from .ensures in
     (omega arith, length-set (l .t) (l .j) (c .entry-from .result) ∙ l .inv .1, fill-more (groupAt p 12) 0 (l .t) (l .j) (c .entry-from .result) (omega arith) (e ∙ stored p (l .j) h (omega arith)) (l .inv .2))
 
--- src/rows.rt:94:1
 returns-2 : tie.Need-returns-2 Inv-loop μ-loop
 unfolding entries
 returns-2 c =

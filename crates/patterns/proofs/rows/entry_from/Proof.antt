@@ -10,65 +10,50 @@ use Rattle.patterns.proofs.rows.entry_from.Reads as reads
 use Rattle.patterns.proofs.rows.entry_from.Lts as lts
 use Rattle.patterns.proofs.rows.spaced.Reads as spaced-reads
 
--- src/rows.rt:84:38
 mul-spaced : tie.Need-mul-spaced
 mul-spaced c = search needs
 
--- src/rows.rt:84:33
 sub-spaced : tie.Need-sub-spaced
 sub-spaced c = search needs
 
--- src/rows.rt:84:25
 shr-spaced : tie.Need-shr-spaced
 shr-spaced c = search needs
 
--- src/rows.rt:84:23
 cast-spaced : tie.Need-cast-spaced
 cast-spaced c = search needs
 
--- src/rows.rt:84:9
 spaced-requires : tie.Need-spaced-requires
 spaced-requires c κs = search needs
 
--- src/rows.rt:84:9
 returns : tie.Need-returns
 unfolding entryFrom
 returns c = c .spaced .ensures ∙ sym (choose-true _ _ (lt-ltb _ _ (c .before .if1 .taken)))
 
--- src/rows.rt:86:29
 sub-e : tie.Need-sub-e
 sub-e c = search needs
 
--- src/rows.rt:86:24
 mul-e : tie.Need-mul-e
 mul-e c = search needs
 
--- src/rows.rt:86:15
 shr-e : tie.Need-shr-e
 shr-e c = search needs
 
--- src/rows.rt:86:13
 cast-e : tie.Need-cast-e
 cast-e c = search needs
 
--- src/rows.rt:88:16
 mul-result : tie.Need-mul-result
 mul-result c = search needs
 
--- src/rows.rt:88:9
 returns-2 : tie.Need-returns-2
 unfolding entryFrom
 returns-2 c = simp (le-ltb _ _ (c .before .if1 .left), lt-ltb _ _ (c .if2 .taken))
 
--- src/rows.rt:90:5
 mul-result-2 : tie.Need-mul-result-2
 mul-result-2 c = search needs
 
--- src/rows.rt:90:5
 add-result : tie.Need-add-result
 add-result c = search needs
 
--- src/rows.rt:79:1
 returns-3 : tie.Need-returns-3
 unfolding entryFrom
 returns-3 c = simp (le-ltb _ _ (c .before .if1 .left), le-ltb _ _ (c .if2 .left))

@@ -7,26 +7,21 @@ use Rattle.patterns.proofs.rows.next_entry.Tie as tie
 use Rattle.patterns.proofs.rows.next_entry.Reads as reads
 use Rattle.patterns.proofs.rows.next_entry.Lts as lts
 
--- src/rows.rt:114:9
 returns : tie.Need-returns
 unfolding nextEntry
 returns c = simp (eq-eqb _ _ (c .if1 .taken))
 
--- src/rows.rt:117:9
 returns-2 : tie.Need-returns-2
 unfolding nextEntry
 returns-2 c = simp (ne-eqb _ _ (c .before .if1 .left), eq-eqb _ _ (c .if2 .taken))
 
--- src/rows.rt:119:17
 add-result : tie.Need-add-result
 add-result c = search needs
 
--- src/rows.rt:110:1
 returns-3 : tie.Need-returns-3
 unfolding nextEntry
 returns-3 c = simp (ne-eqb _ _ (c .before .before .if1 .left), ne-eqb _ _ (c .before .if2 .left), lt-ltb _ _ (c .if3 .taken))
 
--- src/rows.rt:110:1
 returns-4 : tie.Need-returns-4
 unfolding nextEntry
 returns-4 c = simp (ne-eqb _ _ (c .before .before .if1 .left), ne-eqb _ _ (c .before .if2 .left), le-ltb _ _ (c .if3 .left))

@@ -7,39 +7,30 @@ use Rattle.patterns.proofs.rows.spaced.Tie as tie
 use Rattle.patterns.proofs.rows.spaced.Reads as reads
 use Rattle.patterns.proofs.rows.spaced.Lts as lts
 
--- src/rows.rt:75:5
 mul-result : tie.Need-mul-result
 mul-result c = search needs
 
--- src/rows.rt:75:28
 mul-result-2 : tie.Need-mul-result-2
 mul-result-2 c = search needs
 
--- src/rows.rt:75:5
 add-result : tie.Need-add-result
 add-result c = search needs
 
--- src/rows.rt:75:49
 mul-result-3 : tie.Need-mul-result-3
 mul-result-3 c = search needs
 
--- src/rows.rt:75:5
 add-result-2 : tie.Need-add-result-2
 add-result-2 c = search needs
 
--- src/rows.rt:75:69
 mul-result-4 : tie.Need-mul-result-4
 mul-result-4 c = search needs
 
--- src/rows.rt:75:5
 add-result-3 : tie.Need-add-result-3
 add-result-3 c = search needs
 
--- src/rows.rt:75:5
 add-result-4 : tie.Need-add-result-4
 add-result-4 c = search needs
 
--- src/rows.rt:72:1
 returns : tie.Need-returns
 unfolding spaced
 returns c = refl
