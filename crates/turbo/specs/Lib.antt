@@ -1,0 +1,3 @@
+pub mod Constituent
+pub mod Lane
+pub mod Inside

@@ -1,0 +1,3 @@
+// The turbo encoder (clauses 4.4.2 to 4.4.5).
+mod constituent;
+mod lane;
