@@ -9,6 +9,12 @@ use Rattle.ground.proofs.Outcome.{same}
 use Rattle.patterns.proofs.units as units
 use Rattle.patterns.proofs.units.Kinds as units-kinds
 use Rattle.patterns.proofs.units.Reads as units-reads
+use Rattle.patterns.proofs.code_length as code-length
+use Rattle.patterns.proofs.code_length.Kinds as code-length-kinds
+use Rattle.patterns.proofs.code_length.Reads as code-length-reads
+use Rattle.patterns.proofs.unpaired as unpaired
+use Rattle.patterns.proofs.unpaired.Kinds as unpaired-kinds
+use Rattle.patterns.proofs.unpaired.Reads as unpaired-reads
 use Rattle.patterns.proofs.rows.entries as entries
 use Rattle.patterns.proofs.rows.entries.Kinds as entries-kinds
 use Rattle.patterns.proofs.rows.entries.Reads as entries-reads
@@ -38,3 +44,13 @@ module _ (κs : Lfts 0) (a : ArgsD digit.signature κs) where
   pub digit-agrees : (r r′ : ResD digit.signature κs) (s s′ : AtExit (endedOf 0 digit-kinds.ps digit-kinds.r) κs) →
       digit-reads.Post κs a r s → digit-reads.Post κs a r′ s′ → r ≡ r′
   digit-agrees r r′ s s′ p q = same p q
+
+module _ (κs : Lfts 0) (a : ArgsD code-length.signature κs) where
+  pub code-length-agrees : (r r′ : ResD code-length.signature κs) (s s′ : AtExit (endedOf 0 code-length-kinds.ps code-length-kinds.r) κs) →
+      code-length-reads.Post κs a r s → code-length-reads.Post κs a r′ s′ → r ≡ r′
+  code-length-agrees r r′ s s′ p q = same p q
+
+module _ (κs : Lfts 0) (a : ArgsD unpaired.signature κs) where
+  pub unpaired-agrees : (r r′ : ResD unpaired.signature κs) (s s′ : AtExit (endedOf 0 unpaired-kinds.ps unpaired-kinds.r) κs) →
+      unpaired-reads.Post κs a r s → unpaired-reads.Post κs a r′ s′ → r ≡ r′
+  unpaired-agrees r r′ s s′ p q = same p q

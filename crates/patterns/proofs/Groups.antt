@@ -4,7 +4,7 @@ use Prim.Native.Nat.{ℕ, _+_, _-_, _*_, _/_, _%_, _≤_, _<_}
 use mathlib.Core.Path.{_≡_, refl, sym, ap, ap₂, _∙_}
 use mathlib.Core.Bool.{Bool}
 use mathlib.Core.List.{List, []}
-use native.Mathlib.Nat.{mod-mod-of-dvd, dvd-of-mod-eq-zero}
+use native.Mathlib.Nat.{mod-mod-of-dvd, dvd-of-mod-eq-zero, zero-add}
 use native.Mathlib.Decide.{decLt, ℕ-discrete}
 use native.Mathlib.Omega.{arith}
 use lib.Dec.{T, eqb, ltb, leb, eqb→eq, leb→le}
@@ -13,9 +13,9 @@ use borrow.Author.Tests.{lt-ltb, le-ltb, eq-eqb, ne-eqb}
 use Rattle.ground.specs.Choice.{choose, both}
 use Rattle.ground.specs.Table.{allBelow}
 use Rattle.ground.proofs.Choice.{choose-true, choose-false}
-use Rattle.ground.proofs.Table.{at-all}
+use Rattle.ground.proofs.Table.{at-all, getD-tab}
 use Rattle.patterns.specs.Rows.{dataRows, dataGroup, tailGroup, groupAt, digit, copies}
-use Rattle.patterns.specs.Walk.{nextEntry}
+use Rattle.patterns.specs.Walk.{entries, nextEntry}
 
 module _ (p n : ℕ) where
   pub group-data : (i : ℕ) → i < n → groupAt p n i ≡ dataGroup p i
@@ -94,6 +94,13 @@ module _ (n i : ℕ) where
             ap (groupAt p 12) (entry-tail (omega arith))
             ∙ group-tail p 12 (12 + (i - n)) (omega arith) ∙ ap (tailGroup p) e ∙ sym (group-tail p n i (omega arith)))
       ]
+
+-- what stands at a group's entry says how often its symbols are sent
+pub entry-digit : (p n i s : ℕ) → p < 28 → i < n + 6 → s < 5 → digit (getD (entries p) (entryOf n i) 0) s ≡ copies p n (5 * i + s)
+unfolding entries
+entry-digit p n i s hp hi hs =
+    ap (λ (x : ℕ). digit x s) (getD-tab (groupAt p 12) 0 0 18 (entryOf n i) (entry-lt n i hi) ∙ ap (groupAt p 12) (zero-add (entryOf n i)) ∙ entry-group n i p hp)
+    ∙ sym (copies-symbol p n i s hs)
 
 -- the first group has the first entry
 pub entry-first : (n : ℕ) → 0 < n → entryOf n 0 ≡ 0

@@ -13,7 +13,7 @@ use Rattle.ground.specs.Choice.{both}
 use Rattle.ground.specs.Table.{allBelow}
 use Rattle.ground.proofs.Choice.{both-left, both-right}
 use Rattle.ground.proofs.Table.{at-all}
-use Rattle.patterns.specs.Rates.{Rate, rates, rateOf, unitsOf}
+use Rattle.patterns.specs.Rates.{rates, rateOf}
 use Rattle.patterns.specs.Rows.{dataRows, tailRows, dataGroup, tailGroup, groupAt, digit, copies}
 use Rattle.patterns.specs.Sent.{places, total, Coded, codeLength}
 use Rattle.patterns.proofs.Totals.{total-cong, total-add, total-period}
@@ -58,37 +58,31 @@ count-is p n =
 pub record Length (p n : ℕ) : Type 0 where
   pub all : total (copies p n) (places n) ≡ codeLength p n
   pub exact : codeLength p n * rateOf p .num ≡ (n + 6) * rateOf p .den
-  pub units : codeLength p n ≡ (n + 6) / 6 * unitsOf p
   pub bytes : codeLength p n % 8 ≡ 0
 
 rule : ℕ → ℕ → Bool
 rule n p =
-    both (eqb (counted p n) (codeLength p n))
-    (both (eqb (codeLength p n * rateOf p .num) ((n + 6) * rateOf p .den))
-    (both (eqb (codeLength p n) ((n + 6) / 6 * unitsOf p)) (eqb (codeLength p n % 8) 0)))
+    both (eqb (counted p n) (codeLength p n)) (both (eqb (codeLength p n * rateOf p .num) ((n + 6) * rateOf p .den)) (eqb (codeLength p n % 8) 0))
 
 payload-rule : T (allBelow (rule 12282) 28)
-unfolding rule counted period dataTimes tailTimes dataGroup tailGroup digit total dataRows tailRows codeLength unitsOf rateOf rates
+unfolding rule counted period dataTimes tailTimes dataGroup tailGroup digit total dataRows tailRows codeLength rateOf rates
 payload-rule = tt
 
 signalling-rule : T (rule 762 0)
-unfolding rule counted period dataTimes tailTimes dataGroup tailGroup digit total dataRows tailRows codeLength unitsOf rateOf rates
+unfolding rule counted period dataTimes tailTimes dataGroup tailGroup digit total dataRows tailRows codeLength rateOf rates
 signalling-rule = tt
-
-four : (a b c d : Bool) → T (both a (both b (both c d))) → T a × T b × T c × T d
-four a b c d t = (both-left a _ t, both-left b _ (both-right a _ t), both-left c d (both-right b _ (both-right a _ t)), both-right c d (both-right b _ (both-right a _ t)))
 
 kept : (p n : ℕ) → T (rule n p) → Length p n
 unfolding rule
 kept p n t =
     let l : ℕ = codeLength p n in
-    let h =
-    four (eqb (counted p n) l) (eqb (l * rateOf p .num) ((n + 6) * rateOf p .den)) (eqb l ((n + 6) / 6 * unitsOf p)) (eqb (l % 8) 0) t in
+    let a : Bool = eqb (counted p n) l in
+    let b : Bool = eqb (l * rateOf p .num) ((n + 6) * rateOf p .den) in
+    let c : Bool = eqb (l % 8) 0 in
     record {
-      all = count-is p n ∙ eqb→eq (counted p n) l (h .0);
-      exact = eqb→eq (l * rateOf p .num) ((n + 6) * rateOf p .den) (h .1);
-      units = eqb→eq l ((n + 6) / 6 * unitsOf p) (h .2);
-      bytes = eqb→eq (l % 8) 0 (h .3);
+      all = count-is p n ∙ eqb→eq (counted p n) l (both-left a (both b c) t);
+      exact = eqb→eq (l * rateOf p .num) ((n + 6) * rateOf p .den) (both-left b c (both-right a (both b c) t));
+      bytes = eqb→eq (l % 8) 0 (both-right b c (both-right a (both b c) t));
     }
 
 -- every pattern keeps the rule for each block that is coded under it

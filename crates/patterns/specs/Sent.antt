@@ -4,7 +4,10 @@ use Prim.Native.Nat.{ℕ, zero, suc, _+_, _*_, _/_, _<_}
 use mathlib.Core.Path.{_≡_}
 use mathlib.Core.Logic.{_⊎_}
 use mathlib.Core.List.{List, [], _++_}
+use mathlib.Core.Bool.{Bool}
+use lib.Dec.{eqb, ltb}
 use lib.ListN.{getD, replicate}
+use Rattle.ground.specs.Choice.{both}
 use Rattle.patterns.specs.Rates.{rateOf}
 use Rattle.patterns.specs.Rows.{copies}
 
@@ -29,6 +32,10 @@ sent p n = spread (copies p n) (λ k. k) (places n)
 -- the place from which the code bit k is sent
 unfoldable pub sentFrom : ℕ → ℕ → ℕ → ℕ
 sentFrom p n k = getD (sent p n) k 0
+
+-- the signalling word's block of 762 bits, with a pattern other than 0
+unfoldable pub unpaired : ℕ → ℕ → Bool
+unpaired p n = both (eqb n 762) (ltb 0 p)
 
 -- the patterns that a block of n bits is coded under: each of the 28 for the payload's, pattern 0 for the signalling word's
 abbrev pub Coded : ℕ → ℕ → Type 0

@@ -2,7 +2,10 @@
 pub mod rows;
 
 ghost use mathlib.Core.Path.{_≡_};
+ghost use lib.Dec.{ltb};
+ghost use Rattle.ground.specs.Choice.{choose};
 ghost use Rattle.patterns.specs.Rates.{unitsOf};
+ghost use Rattle.patterns.specs.Sent.{unpaired, codeLength};
 
 // 6 divided by the rate, by pattern number.
 const UNITS: [u8; 28] = [
@@ -44,4 +47,21 @@ pub fn units(pattern: usize) -> u8
         return 0;
     }
     UNITS[pattern]
+}
+
+// The length in bits of the codeword of a block of n bits; 0 for a number that names no pattern, and for a block that is longer than the payload's.
+pub fn code_length(pattern: usize, n: usize) -> usize
+    ensures { λ r. ⌜ r ≡ choose (ltb 12282 n) 0 (codeLength pattern n) ⌝ }
+{
+    if 12282 < n {
+        return 0;
+    }
+    (n + 6) * units(pattern) as usize / 6
+}
+
+// The signalling word's block, with a pattern other than 0.
+pub fn unpaired(pattern: usize, n: usize) -> bool
+    ensures { λ r. ⌜ r ≡ unpaired pattern n ⌝ }
+{
+    if n == 762 { 0 < pattern } else { false }
 }
