@@ -12,6 +12,9 @@ use Rattle.patterns.proofs.units.Reads as units-reads
 use Rattle.patterns.proofs.code_length as code-length
 use Rattle.patterns.proofs.code_length.Kinds as code-length-kinds
 use Rattle.patterns.proofs.code_length.Reads as code-length-reads
+use Rattle.patterns.proofs.block_by as block-by
+use Rattle.patterns.proofs.block_by.Kinds as block-by-kinds
+use Rattle.patterns.proofs.block_by.Reads as block-by-reads
 use Rattle.patterns.proofs.unpaired as unpaired
 use Rattle.patterns.proofs.unpaired.Kinds as unpaired-kinds
 use Rattle.patterns.proofs.unpaired.Reads as unpaired-reads
@@ -54,3 +57,8 @@ module _ (κs : Lfts 0) (a : ArgsD unpaired.signature κs) where
   pub unpaired-agrees : (r r′ : ResD unpaired.signature κs) (s s′ : AtExit (endedOf 0 unpaired-kinds.ps unpaired-kinds.r) κs) →
       unpaired-reads.Post κs a r s → unpaired-reads.Post κs a r′ s′ → r ≡ r′
   unpaired-agrees r r′ s s′ p q = same p q
+
+module _ (κs : Lfts 0) (a : ArgsD block-by.signature κs) where
+  pub block-by-agrees : (r r′ : ResD block-by.signature κs) (s s′ : AtExit (endedOf 0 block-by-kinds.ps block-by-kinds.r) κs) →
+      block-by-reads.Post κs a r s → block-by-reads.Post κs a r′ s′ → r ≡ r′
+  block-by-agrees r r′ s s′ p q = same p q

@@ -15,7 +15,8 @@ use Rattle.ground.proofs.Choice.{both-left, both-right}
 use Rattle.ground.proofs.Table.{at-all}
 use Rattle.patterns.specs.Rates.{rates, rateOf}
 use Rattle.patterns.specs.Rows.{dataRows, tailRows, dataGroup, tailGroup, groupAt, digit, copies}
-use Rattle.patterns.specs.Sent.{places, total, Coded, codeLength}
+use Rattle.patterns.specs.Blocks.{Coded}
+use Rattle.patterns.specs.Sent.{places, total, codeLength}
 use Rattle.patterns.proofs.Totals.{total-cong, total-add, total-period}
 use Rattle.patterns.proofs.Groups.{copies-data, copies-tail}
 

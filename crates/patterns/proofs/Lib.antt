@@ -1,4 +1,5 @@
 pub mod Rates
+pub mod Blocks
 pub mod Groups
 pub mod Packed
 pub mod Totals

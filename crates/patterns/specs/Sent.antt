@@ -1,13 +1,8 @@
 -- What is sent: the lane's places in order, each as often as its pattern says (clauses 4.4.2, 4.4.3 and 4.4.5).
 -- Assumes nothing.
-use Prim.Native.Nat.{ℕ, zero, suc, _+_, _*_, _/_, _<_}
-use mathlib.Core.Path.{_≡_}
-use mathlib.Core.Logic.{_⊎_}
+use Prim.Native.Nat.{ℕ, zero, suc, _+_, _*_, _/_}
 use mathlib.Core.List.{List, [], _++_}
-use mathlib.Core.Bool.{Bool}
-use lib.Dec.{eqb, ltb}
 use lib.ListN.{getD, replicate}
-use Rattle.ground.specs.Choice.{both}
 use Rattle.patterns.specs.Rates.{rateOf}
 use Rattle.patterns.specs.Rows.{copies}
 
@@ -32,14 +27,6 @@ sent p n = spread (copies p n) (λ k. k) (places n)
 -- the place from which the code bit k is sent
 unfoldable pub sentFrom : ℕ → ℕ → ℕ → ℕ
 sentFrom p n k = getD (sent p n) k 0
-
--- the signalling word's block of 762 bits, with a pattern other than 0
-unfoldable pub unpaired : ℕ → ℕ → Bool
-unpaired p n = both (eqb n 762) (ltb 0 p)
-
--- the patterns that a block of n bits is coded under: each of the 28 for the payload's, pattern 0 for the signalling word's
-abbrev pub Coded : ℕ → ℕ → Type 0
-Coded p n = ((p < 28) × (n ≡ 12282)) ⊎ ((p ≡ 0) × (n ≡ 762))
 
 -- the length of a codeword in bits: the block with its six tail periods, divided by the rate
 unfoldable pub codeLength : ℕ → ℕ → ℕ

@@ -5,7 +5,8 @@ ghost use mathlib.Core.Path.{_≡_};
 ghost use lib.Dec.{ltb};
 ghost use Rattle.ground.specs.Choice.{choose};
 ghost use Rattle.patterns.specs.Rates.{unitsOf};
-ghost use Rattle.patterns.specs.Sent.{unpaired, codeLength};
+ghost use Rattle.patterns.specs.Blocks.{blockBy, unpaired};
+ghost use Rattle.patterns.specs.Sent.{codeLength};
 
 // 6 divided by the rate, by pattern number.
 const UNITS: [u8; 28] = [
@@ -59,7 +60,20 @@ pub fn code_length(pattern: usize, n: usize) -> usize
     (n + 6) * units(pattern) as usize / 6
 }
 
-// The signalling word's block, with a pattern other than 0.
+// The bits of the block that a length tells, 0 where there is no such block.
+pub fn block_by(payload: usize, signalling: usize, len: usize) -> usize
+    ensures { λ r. ⌜ r ≡ blockBy payload signalling len ⌝ }
+{
+    if len == payload {
+        return 12282;
+    }
+    if len == signalling {
+        return 762;
+    }
+    0
+}
+
+// The block of 762 bits with a pattern other than 0.
 pub fn unpaired(pattern: usize, n: usize) -> bool
     ensures { λ r. ⌜ r ≡ unpaired pattern n ⌝ }
 {

@@ -1,6 +1,6 @@
 -- `patterns::unpaired` meets its contract. Assumes nothing.
 use borrow.Author.Tests.{eq-eqb, ne-eqb}
-use Rattle.patterns.specs.Sent.{unpaired}
+use Rattle.patterns.specs.Blocks.{unpaired}
 use Rattle.patterns.proofs.unpaired.Statement.{statement}
 use Rattle.patterns.proofs.unpaired.Tie as tie
 use Rattle.patterns.proofs.unpaired.Reads as reads
