@@ -34,8 +34,11 @@ widthFault [] = false
 widthFault (f ∷ fs) = either (widthWrong f) (widthFault fs)
 
 -- 10: some payload pipe in use is without 32 taps; ts has Num_Taps_Div2_1 of every section, in order
+abbrev pub tapsOf : ℕ → ℕ
+tapsOf n = (n + 1) * 2
+
 unfoldable pub tapsWrong : List ℕ → List ℕ → Bool
-tapsWrong f ts = both (not (eqb (pipeWidth f) 0)) (not (eqb (total (λ n. (n + 1) * 2) ts) 32))
+tapsWrong f ts = both (not (eqb (pipeWidth f) 0)) (not (eqb (total tapsOf ts) 32))
 
 unfoldable pub tapFault : List (List ℕ) → List ℕ → Bool
 tapFault [] ts = false

@@ -82,11 +82,15 @@ readRefusal w out =
 abbrev pub front : List ℕ → List ℕ → List ℕ
 front sheet out = sheet ++ drop (length sheet) out
 
+-- what the tests of a word's bits say: the counts, or the first refusal
+unfoldable pub surveyed : List ℕ → Told
+surveyed b =
+    choose (eqb (firstOf (wordFaults b)) 0)
+    (record { number = 0; values = pIn b ∷ sIn b ∷ dIn b ∷ [] })
+    (record { number = firstOf (wordFaults b); values = [] })
+
 unfoldable pub reading : List ℕ → List ℕ → Outcome Told (List ℕ)
 reading w out =
     choose (eqb (readRefusal w out) 0)
-    (record {
-      answer = record { number = 0; values = pIn (unpack w) ∷ sIn (unpack w) ∷ dIn (unpack w) ∷ [] };
-      memory = front (sheetOf (listsIn (unpack w))) out;
-    })
+    (record { answer = surveyed (unpack w); memory = front (sheetOf (listsIn (unpack w))) out })
     (record { answer = record { number = readRefusal w out; values = [] }; memory = out })

@@ -6,6 +6,7 @@ use mathlib.Core.List.{List, [], _∷_}
 use Prim.Native.Nat.{ℕ, zero, suc, _<_}
 use native.Mathlib.Omega.{arith}
 use lib.Dec.{T, ltb, ltb→lt}
+use lib.ListN.{take, drop}
 use Rattle.ground.specs.Choice.{choose, both, either, Fault, firstOf}
 
 pub choose-true : {A : Type 0} {b : Bool} (x y : A) → b ≡ true → choose b x y ≡ x
@@ -86,3 +87,9 @@ all-clear (f ∷ l) t e =
 pub clear-all : (l : List Fault) → AllClear l → firstOf l ≡ 0
 clear-all [] c = refl
 clear-all (f ∷ l) c = first-clear f l (c .0) ∙ clear-all l (c .1)
+
+-- faults that are not found are passed
+pub first-drop : (k : ℕ) (l : List Fault) → AllClear (take k l) → firstOf l ≡ firstOf (drop k l)
+first-drop zero l c = refl
+first-drop (suc k) [] c = refl
+first-drop (suc k) (f ∷ l) c = first-clear f l (c .0) ∙ first-drop k l (c .1)
