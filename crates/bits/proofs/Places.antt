@@ -53,3 +53,6 @@ packed-ext f out n e h = tab-ext (λ k. number f (8 * k) 8) 0 n out e h
 pub field-is : (w : List ℕ) (at n : ℕ) → n ≤ 32 → fieldAt w at n ≡ number (bitAt w) at n
 unfolding fieldAt
 field-is w at n h = choose-false 0 (number (bitAt w) at n) (le-ltb 32 n h)
+
+pub field-lt : (w : List ℕ) (at n : ℕ) → n ≤ 32 → fieldAt w at n < 2 ^ n
+field-lt w at n h = subst (λ (x : ℕ). x < 2 ^ n) (sym (field-is w at n h)) (number-lt (bitAt w) (bit-lt w) at n)

@@ -23,3 +23,7 @@ packed f n = tab (λ k. number f (8 * k) 8) 0 n
 -- the number in the n bits at a place of packed bytes; a width above 32 gives zero
 unfoldable pub fieldAt : List ℕ → ℕ → ℕ → ℕ
 fieldAt w at n = choose (ltb 32 n) 0 (number (bitAt w) at n)
+
+-- the n fields of k bits each that stand step bits apart, the first at a place
+unfoldable pub fieldsAt : List ℕ → ℕ → ℕ → ℕ → ℕ → List ℕ
+fieldsAt w at step k n = tab (λ i. fieldAt w (at + step * i) k) 0 n

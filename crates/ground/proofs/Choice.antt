@@ -5,7 +5,8 @@ use mathlib.Core.Bool.{Bool, true, false}
 use mathlib.Core.List.{List, [], _∷_}
 use Prim.Native.Nat.{ℕ, zero, suc, _<_}
 use native.Mathlib.Omega.{arith}
-use lib.Dec.{T}
+use lib.Dec.{T, ltb, ltb→lt}
+use lib.ListN.{take, drop}
 use Rattle.ground.specs.Choice.{choose, both, either, Fault, firstOf}
 
 pub choose-true : {A : Type 0} {b : Bool} (x y : A) → b ≡ true → choose b x y ≡ x
@@ -35,3 +36,60 @@ both-left false b t = t
 pub both-right : (a b : Bool) → T (both a b) → T b
 both-right true b t = t
 both-right false b t = absurd t
+
+-- neither of two tests holds
+pub either-false : (a b : Bool) → either a b ≡ false → (a ≡ false) × (b ≡ false)
+either-false true b e = let z : _≡_ {A = ℕ} 0 1 = cc in absurd (omega arith)
+either-false false b e = (refl, e)
+
+pub neither : {a b : Bool} → a ≡ false → b ≡ false → either a b ≡ false
+neither {a} {b} e f = ap (λ (t : Bool). either t b) e ∙ f
+
+-- the second test fails wherever the first holds
+pub both-false : (a b : Bool) → both a b ≡ false → a ≡ true → b ≡ false
+both-false true b e h = e
+both-false false b e h = let z : _≡_ {A = ℕ} 0 1 = cc in absurd (omega arith)
+
+pub both-first : {a : Bool} (b : Bool) → a ≡ false → both a b ≡ false
+both-first b e = ap (λ (t : Bool). both t b) e
+
+pub both-second : (a : Bool) {b : Bool} → b ≡ false → both a b ≡ false
+both-second true e = e
+both-second false e = refl
+
+-- a fault that is not found is passed, one that is found answers, and an answer of 0 has passed it
+pub first-clear : (f : Fault) (l : List Fault) → f .found ≡ false → firstOf (f ∷ l) ≡ firstOf l
+first-clear f l e = choose-false (f .number) (firstOf l) e
+
+pub first-found : (f : Fault) (l : List Fault) → f .found ≡ true → firstOf (f ∷ l) ≡ f .number
+first-found f l e = choose-true (f .number) (firstOf l) e
+
+pub first-past : (f : Fault) (l : List Fault) → 0 < f .number → firstOf (f ∷ l) ≡ 0 → (f .found ≡ false) × (firstOf l ≡ 0)
+first-past f l h e = past (f .found) (f .number) (firstOf l) h e
+
+-- no fault of a list is found
+abbrev pub AllClear : List Fault → Type 0
+AllClear [] = Unit
+AllClear (f ∷ l) = (f .found ≡ false) × AllClear l
+
+-- every number of a list is a refusal's: above 0
+abbrev pub numbered : List Fault → Bool
+numbered [] = true
+numbered (f ∷ l) = both (ltb 0 (f .number)) (numbered l)
+
+-- the answer is 0 exactly where no fault is found
+pub all-clear : (l : List Fault) → T (numbered l) → firstOf l ≡ 0 → AllClear l
+all-clear [] t e = tt
+all-clear (f ∷ l) t e =
+    let a = first-past f l (ltb→lt 0 (f .number) (both-left (ltb 0 (f .number)) (numbered l) t)) e in
+    (a .0, all-clear l (both-right (ltb 0 (f .number)) (numbered l) t) (a .1))
+
+pub clear-all : (l : List Fault) → AllClear l → firstOf l ≡ 0
+clear-all [] c = refl
+clear-all (f ∷ l) c = first-clear f l (c .0) ∙ clear-all l (c .1)
+
+-- faults that are not found are passed
+pub first-drop : (k : ℕ) (l : List Fault) → AllClear (take k l) → firstOf l ≡ firstOf (drop k l)
+first-drop zero l c = refl
+first-drop (suc k) [] c = refl
+first-drop (suc k) (f ∷ l) c = first-clear f l (c .0) ∙ first-drop k l (c .1)

@@ -1,4 +1,5 @@
 pub mod Outcome
 pub mod Choice
 pub mod Table
+pub mod Copy
 pub mod Fill

@@ -3,12 +3,12 @@
 use mathlib.Core.Path.{_≡_, refl, sym, ap, ap₂, _∙_, subst}
 use mathlib.Core.Bool.{Bool, true, false}
 use mathlib.Core.List.{List, [], _∷_, _++_}
-use Prim.Native.Nat.{ℕ, zero, suc, _+_, _<_}
-use native.Mathlib.Nat.{add-zero, zero-add, add-suc, suc-add, not-suc-le-zero}
+use Prim.Native.Nat.{ℕ, zero, suc, _+_, _-_, _≤_, _<_}
+use native.Mathlib.Nat.{add-zero, zero-add, add-suc, suc-add, sub-zero, suc-sub-suc, not-suc-le-zero}
 use native.Mathlib.Decide.{decLt}
 use native.Mathlib.Omega.{arith}
 use lib.Dec.{T}
-use lib.ListN.{length, getD}
+use lib.ListN.{length, getD, take, drop}
 use lib.Seq.{ext-getD}
 use Rattle.ground.specs.Choice.{both}
 use Rattle.ground.specs.Table.{tab, allBelow}
@@ -53,3 +53,24 @@ at-all t (suc n) p k h =
       | yes l ↦ at-all t n (both-right (t n) (allBelow t n) p) k l
       | no l ↦ subst (λ (m : ℕ). T (t m)) (omega arith) (both-left (t n) (allBelow t n) p)
     ]
+
+-- a table from a later place on, and parts of a table
+shift : {A : Type 0} (f : ℕ → A) (i j n : ℕ) → tab f (i + j) n ≡ tab (λ k. f (i + k)) j n
+unfolding tab
+shift f i j zero = refl
+shift f i j (suc n) = ap (λ l. f (i + j) ∷ l) (ap (λ (k : ℕ). tab f k n) (sym (add-suc i j)) ∙ shift f i (suc j) n)
+
+pub tab-shift : {A : Type 0} (f : ℕ → A) (i n : ℕ) → tab (λ k. f (i + k)) 0 n ≡ tab f i n
+tab-shift f i n = sym (shift f i 0 n) ∙ ap (λ (k : ℕ). tab f k n) (add-zero i)
+
+pub drop-tab : {A : Type 0} (f : ℕ → A) (i n k : ℕ) → k ≤ n → drop k (tab f i n) ≡ tab f (i + k) (n - k)
+unfolding tab
+drop-tab f i n zero h = ap₂ (tab f) (sym (add-zero i)) (sym (sub-zero n))
+drop-tab f i zero (suc k) h = absurd (not-suc-le-zero h)
+drop-tab f i (suc n) (suc k) h = drop-tab f (suc i) n k (omega arith) ∙ ap₂ (tab f) (suc-add i k ∙ sym (add-suc i k)) (sym (suc-sub-suc n k))
+
+pub take-tab : {A : Type 0} (f : ℕ → A) (i n k : ℕ) → k ≤ n → take k (tab f i n) ≡ tab f i k
+unfolding tab
+take-tab f i n zero h = refl
+take-tab f i zero (suc k) h = absurd (not-suc-le-zero h)
+take-tab f i (suc n) (suc k) h = ap (λ l. f i ∷ l) (take-tab f (suc i) n k (omega arith))

@@ -2,6 +2,7 @@
 use Prim.Native.Nat.{ℕ, _-_, _/_, _%_, _^_}
 use mathlib.Core.Path.{_≡_, sym, ap, _∙_}
 use native.Mathlib.Nat.{zero-div}
+use native.Mathlib.Omega.{arith}
 use lib.ListN.{getD, List·getD-eq-default}
 use borrow.Author.Needs.{needs}
 use Rattle.bits.proofs.bit_of.Statement.{statement}
@@ -12,7 +13,7 @@ use Rattle.bits.proofs.bit_of.Lts as lts
 -- src/lib.rt:15:9
 returns : tie.Need-returns
 returns c =
-    let e : getD (c .before .args .s .now) (c .before .args .j) 0 ≡ 0 = List·getD-eq-default (c .before .args .s .now) 0 (c .if1 .taken) in
+    let e : getD (c .before .args .s .now) (c .before .args .j) 0 ≡ 0 = List·getD-eq-default (c .before .args .s .now) 0 (omega (arith, c .if1 .taken)) in
     sym (ap (λ (x : ℕ). x / 2 ^ (7 - c .before .args .k) % 2) e ∙ ap (λ (x : ℕ). x % 2) (zero-div (2 ^ (7 - c .before .args .k))))
 
 -- src/lib.rt:17:6

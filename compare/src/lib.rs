@@ -1,0 +1,8 @@
+//! Tests from outside. [`second`] is an independent implementation, written from the standard and the
+//! scope and never from crates/; [`opl`] calls the proved library; the tests hold one to the other.
+
+mod call;
+pub mod lent;
+pub mod opl;
+pub mod rng;
+pub mod second;

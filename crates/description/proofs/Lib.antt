@@ -1,0 +1,10 @@
+pub mod Each
+pub mod Rows
+pub mod Sound
+pub mod Deal
+pub mod Word
+pub mod Tests
+pub mod Keeps
+pub mod Sealed
+pub mod Demand
+pub mod Bounds

@@ -1,0 +1,71 @@
+use borrow.Author.Needs.{needs}
+use Rattle.signalling.proofs.counts.owned.Statement.{statement}
+use Rattle.signalling.proofs.counts.owned.Tie as tie
+use Rattle.signalling.proofs.counts.owned.Reads as reads
+use Rattle.signalling.proofs.counts.owned.Lts as lts
+use Rattle.signalling.proofs.walk.word_bits.Reads as word-bits-reads
+
+-- src/counts.rt:21:34
+add-word-bits : tie.Need-add-word-bits
+add-word-bits c = search needs
+
+-- src/counts.rt:21:8
+word-bits-requires : tie.Need-word-bits-requires
+word-bits-requires c κs = search needs
+
+-- src/counts.rt:22:9
+returns : tie.Need-returns
+returns c = ?
+
+-- src/counts.rt:24:39
+add-word-bits-2 : tie.Need-add-word-bits-2
+add-word-bits-2 c = search needs
+
+-- src/counts.rt:24:13
+word-bits-requires-2 : tie.Need-word-bits-requires-2
+word-bits-requires-2 c κs = search needs
+
+-- src/counts.rt:24:13
+cast-s : tie.Need-cast-s
+cast-s c = search needs
+
+-- src/counts.rt:25:39
+add-word-bits-3 : tie.Need-add-word-bits-3
+add-word-bits-3 c = search needs
+
+-- src/counts.rt:25:13
+word-bits-requires-3 : tie.Need-word-bits-requires-3
+word-bits-requires-3 c κs = search needs
+
+-- src/counts.rt:25:13
+cast-d : tie.Need-cast-d
+cast-d c = search needs
+
+-- src/counts.rt:26:16
+add-t6 : tie.Need-add-t6
+add-t6 c = search needs
+
+-- src/counts.rt:26:26
+add-t8 : tie.Need-add-t8
+add-t8 c = search needs
+
+-- src/counts.rt:17:1
+returns-2 : tie.Need-returns-2
+returns-2 c = ?
+
+pub owned-spec : {M : Type 1} → statement M
+owned-spec =
+    tie.close
+    (tie.spec
+    add-word-bits
+    word-bits-requires
+    returns
+    add-word-bits-2
+    word-bits-requires-2
+    cast-s
+    add-word-bits-3
+    word-bits-requires-3
+    cast-d
+    add-t6
+    add-t8
+    returns-2)

@@ -1,0 +1,142 @@
+// The tests behind refusals 9, 10 and 11. Places are given in bits and sections by their distance, so that words and sheets share them.
+ghost use mathlib.Core.Path.{_≡_};
+ghost use mathlib.Core.List.{[], _∷_};
+ghost use Prim.Native.Nat.{_+_, _*_, _≤_, _<_};
+ghost use lib.ListN.{length, drop};
+ghost use Rattle.ground.specs.Choice.{refuse, firstOf};
+ghost use Rattle.bits.specs.Lists.{unpack};
+ghost use Rattle.bits.specs.Places.{fieldsAt};
+ghost use Rattle.description.specs.Rows.{cut, cuts, total};
+ghost use Rattle.description.specs.Fields.{table16};
+ghost use Rattle.description.specs.Description.{ownSections};
+ghost use Rattle.description.specs.Tests.{tapsOf, widthWrong, widthFault, tapsWrong, tapFault, member, idFault};
+
+// Whether the payload pipe whose record stands at a place has a width that is no multiple of its codeword's.
+fn width_wrong(w: &[u8], at: usize) -> bool
+    requires { ⌜ (at + 48 ≤ 8 * length (now w)) × (length (now w) ≤ 4096) ⌝ }
+    ensures { λ r. ⌜ r ≡ widthWrong (cut table16 (drop at (unpack (now (w .entry))))) ⌝ }
+{
+    let pattern = crate::walk::word_bits(w, at, 6) as usize;
+    if 27 < pattern {
+        return false;
+    }
+    let units = patterns::units(pattern) as u32;
+    if units == 0 {
+        return false;
+    }
+    crate::walk::word_bits(w, at + 6, 10) % units != 0
+}
+
+// 9: whether some of the p payload pipes at a place has.
+fn any_width_wrong(w: &[u8], at: usize, p: usize) -> bool
+    requires { ⌜ (at + 48 * p ≤ 8 * length (now w)) × (length (now w) ≤ 4096) ⌝ }
+    ensures { λ r. ⌜ r ≡ widthFault (cuts table16 p (drop at (unpack (now (w .entry))))) ⌝ }
+{
+    let mut i: usize = 0;
+    while i < p {
+        if width_wrong(w, at + 48 * i) {
+            return true;
+        }
+        i += 1;
+    }
+    false
+}
+
+// The taps of n sections whose first stands at a place.
+fn taps_at(w: &[u8], at: usize, step: usize, n: usize) -> u32
+    requires { ⌜ (n ≤ 8) × (step ≤ 16) × (at ≤ 32768) ⌝ }
+    ensures { λ r. ⌜ r ≡ total tapsOf (fieldsAt (now (w .entry)) at step 4 n) ⌝ }
+{
+    let mut taps: u32 = 0;
+    let mut k: usize = 0;
+    while k < n {
+        taps += (crate::walk::word_bits(w, at + step * k, 4) + 1) * 2;
+        k += 1;
+    }
+    taps
+}
+
+// Whether the payload pipe whose record stands at a place is in use without 32 taps in its d sections at another.
+fn taps_wrong(w: &[u8], at: usize, sections: usize, step: usize, d: usize) -> bool
+    requires { ⌜ (at + 48 ≤ 8 * length (now w)) × (length (now w) ≤ 4096) × (d ≤ 8) × (step ≤ 16) × (sections ≤ 32768) ⌝ }
+    ensures { λ r. ⌜ r ≡ tapsWrong (cut table16 (drop at (unpack (now (w .entry))))) (fieldsAt (now (w .entry)) sections step 4 d) ⌝ }
+{
+    if crate::walk::word_bits(w, at + 6, 10) == 0 {
+        return false;
+    }
+    taps_at(w, sections, step, d) != 32
+}
+
+// 10: whether some of the p payload pipes at a place is; all their sections stand at another.
+fn any_taps_wrong(w: &[u8], at: usize, p: usize, sections: usize, step: usize) -> bool
+    requires { ⌜ (at + 48 * p ≤ 8 * length (now w)) × (length (now w) ≤ 4096) × (step ≤ 16) × (sections + 128 * p ≤ 32768) ⌝ }
+    ensures { λ r. ⌜ r ≡ tapFault (cuts table16 p (drop at (unpack (now (w .entry))))) (fieldsAt (now (w .entry)) sections step 4 (total ownSections (cuts table16 p (drop at (unpack (now (w .entry))))))) ⌝ }
+{
+    let mut from = sections;
+    let mut i: usize = 0;
+    while i < p {
+        let own = crate::counts::owned(w, at + 48 * i);
+        if taps_wrong(w, at + 48 * i, from, step, own.d) {
+            return true;
+        }
+        from += step * own.d;
+        i += 1;
+    }
+    false
+}
+
+// Whether one of the streams from a number on, of the n at a place, has this id.
+fn has_id(w: &[u8], at: usize, n: usize, from: usize, id: u32) -> bool
+    requires { ⌜ (n ≤ 65535) × (at ≤ 32768) × (from ≤ n) ⌝ }
+    ensures { λ r. ⌜ r ≡ member id (drop from (fieldsAt (now (w .entry)) at 16 8 n)) ⌝ }
+{
+    let mut j = from;
+    while j < n {
+        if crate::walk::word_bits(w, at + 16 * j, 8) == id {
+            return true;
+        }
+        j += 1;
+    }
+    false
+}
+
+// 11: whether an id stands twice among the n streams at a place.
+fn id_twice(w: &[u8], at: usize, n: usize) -> bool
+    requires { ⌜ (n ≤ 65535) × (at ≤ 32768) ⌝ }
+    ensures { λ r. ⌜ r ≡ idFault (fieldsAt (now (w .entry)) at 16 8 n) ⌝ }
+{
+    let mut i: usize = 0;
+    while i < n {
+        let id = crate::walk::word_bits(w, at + 16 * i, 8);
+        if has_id(w, at, n, i + 1, id) {
+            return true;
+        }
+        i += 1;
+    }
+    false
+}
+
+// The three tests in their order: the number of the first that finds something, and 0 where none does.
+pub fn judge(
+    w: &[u8],
+    at: usize,
+    p: usize,
+    streams: usize,
+    s: usize,
+    sections: usize,
+    step: usize,
+) -> u8
+    requires { ⌜ (at + 48 * p ≤ 8 * length (now w)) × (length (now w) ≤ 4096) × (s ≤ 65535) × (streams ≤ 32768) × (step ≤ 16) × (sections + 128 * p ≤ 32768) ⌝ }
+    ensures { λ r. ⌜ r ≡ firstOf (refuse 9 (widthFault (cuts table16 p (drop at (unpack (now (w .entry)))))) ∷ refuse 10 (tapFault (cuts table16 p (drop at (unpack (now (w .entry))))) (fieldsAt (now (w .entry)) sections step 4 (total ownSections (cuts table16 p (drop at (unpack (now (w .entry)))))))) ∷ refuse 11 (idFault (fieldsAt (now (w .entry)) streams 16 8 s)) ∷ []) ⌝ }
+{
+    if any_width_wrong(w, at, p) {
+        return 9;
+    }
+    if any_taps_wrong(w, at, p, sections, step) {
+        return 10;
+    }
+    if id_twice(w, streams, s) {
+        return 11;
+    }
+    0
+}

@@ -1,0 +1,54 @@
+#!/usr/bin/env bash
+# What `make test` runs: the layout, the whole of `rt ci`, compare's tests over the library that
+# `rt ci` proved, and the C example. It exits 0, with `rt ci`'s own 'N passed, 0 failed' as its very
+# last line, only if all of it passed; after any failure the last line names the step that failed.
+set -euo pipefail
+cd "$(dirname "$0")/.."
+unset MAKEFLAGS MFLAGS MAKELEVEL
+
+step='the start'
+verdict=''
+said=''
+
+ended() {
+    status=$?
+    [ -z "$said" ] || rm -f "$said"
+    if [ -n "$verdict" ]; then
+        echo "$verdict"
+        exit 0
+    fi
+    echo "test: FAILED at $step"
+    if [ "$status" -eq 0 ]; then status=1; fi
+    exit "$status"
+}
+trap ended EXIT
+said=$(mktemp)
+
+begin() {
+    step=$1
+    echo "test: $step ..."
+}
+
+begin 'rt fmt --check'
+rt fmt --check
+
+# rt ci removes target/ first, so what it says is kept outside until it is done
+begin 'rt ci'
+proved=0
+rt ci 2>&1 | tee "$said" || proved=$?
+mkdir -p target
+cp "$said" target/ci.out
+[ "$proved" -eq 0 ]
+last=$(tail -n 1 "$said")
+[[ $last =~ ^[0-9]+' passed, 0 failed'$ ]]
+
+begin 'the library'
+make --no-print-directory lib
+
+begin 'compare'
+(cd compare && cargo test --release --offline --locked)
+
+begin 'the C example'
+make --no-print-directory demo
+
+verdict=$last
