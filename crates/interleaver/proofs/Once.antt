@@ -10,7 +10,7 @@ use native.Mathlib.Numerals.{add-one}
 use native.Mathlib.Decide.{decLt}
 use native.Mathlib.Omega.{arith}
 use lib.Dec.{ltb, lit≤}
-use lib.ListN.{length, getD, take, replicate, List·getD-append}
+use lib.ListN.{length, getD, take, replicate, length-append, length-replicate, List·getD-append}
 use lib.Seq.{getD-append-seam, take-at}
 use borrow.Author.Tests.{lt-ltb}
 use Rattle.interleaver.specs.Order.{parameter, address, keepIf, kept, order, padded, orderTable}
@@ -103,3 +103,9 @@ order-permutes N =
 pub table-order : (N : ℕ) → Block N → take N (orderTable N) ≡ order N
 unfolding orderTable padded
 table-order N b = take-at (order N) (replicate (12282 - length (order N)) 0) N (order-permutes N b .size)
+
+pub table-length : (N : ℕ) → Block N → length (orderTable N) ≡ 12282
+unfolding orderTable padded
+table-length N b =
+    length-append (order N) (replicate (12282 - length (order N)) 0) ∙ ap (λ (m : ℕ). length (order N) + m) (length-replicate {A = ℕ} (12282 - length (order N)) 0)
+    ∙ ⊎-elim (λ e. omega (arith, order-permutes N b .size)) (λ e. omega (arith, order-permutes N b .size)) b

@@ -6,9 +6,11 @@ use mathlib.Core.Bool.{Bool, true, false}
 use mathlib.Core.Logic.{_⊎_, inl, inr, ⊎-elim}
 use native.Mathlib.Omega.{arith}
 use lib.Dec.{eqb, ltb}
-use borrow.Author.Tests.{eq-eqb, eqb-false, ltb-false}
+use borrow.Author.Tests.{eq-eqb, eqb-false, ltb-false, le-ltb}
 use Rattle.ground.specs.Choice.{choose, both}
+use Rattle.ground.proofs.Choice.{choose-false}
 use Rattle.patterns.specs.Blocks.{blockBy, unpaired, Coded}
+use Rattle.patterns.specs.Sent.{codeLength}
 
 block-cases : (payload signalling len : ℕ) → eqb (blockBy payload signalling len) 0 ≡ false → (blockBy payload signalling len ≡ 12282) ⊎ (blockBy payload signalling len ≡ 762)
 unfolding blockBy
@@ -35,3 +37,7 @@ block-coded payload signalling len p h u q =
 -- how large such a block is
 pub coded-bounds : (p n : ℕ) → Coded p n → (p < 28) × (0 < n) × (n ≤ 12282)
 coded-bounds p n = ⊎-elim (λ w. omega arith) (λ w. omega arith)
+
+-- the code's length of a codeword is the codeword's
+pub coded-length : (p n : ℕ) → Coded p n → choose (ltb 12282 n) 0 (codeLength p n) ≡ codeLength p n
+coded-length p n h = choose-false 0 (codeLength p n) (le-ltb 12282 n (coded-bounds p n h .2))

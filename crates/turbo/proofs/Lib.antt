@@ -1,3 +1,4 @@
 pub mod Filling
 pub mod Sending
 pub mod Accepting
+pub mod Agree
