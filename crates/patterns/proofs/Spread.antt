@@ -2,14 +2,13 @@
 -- Assumes nothing.
 use Prim.Native.Nat.{ℕ, zero, suc, _+_, _-_, _*_, _≤_, _<_}
 use mathlib.Core.Path.{_≡_, refl, sym, ap, ap₂, _∙_, subst}
-use mathlib.Core.List.{List, [], _∷_, _++_, map}
+use mathlib.Core.List.{List, [], _∷_, _++_}
 use native.Mathlib.Nat.{not-suc-le-zero}
 use native.Mathlib.Decide.{decLt}
 use native.Mathlib.Omega.{arith}
-use lib.ListN.{length, getD, replicate, length-append, length-replicate, getD-replicate, List·getD-append, List·getD-map, length-map}
+use lib.ListN.{length, getD, replicate, length-append, length-replicate, getD-replicate, List·getD-append}
 use lib.Seq.{getD-append-add}
-use Rattle.patterns.specs.Rows.{copies}
-use Rattle.patterns.specs.Sent.{places, spread, total, sent, sentFrom}
+use Rattle.patterns.specs.Sent.{spread, total}
 use Rattle.patterns.proofs.Totals.{total-more, total-mono}
 
 module _ {A : Type 0} (c : ℕ → ℕ) (x : ℕ → A) where
@@ -34,6 +33,24 @@ module _ {A : Type 0} (c : ℕ → ℕ) (x : ℕ → A) where
           ap (λ (i : ℕ). getD (spread c x n ++ replicate (c n) (x n)) (total c i + t) d) e
           ∙ ap (λ (i : ℕ). getD (spread c x n ++ replicate (c n) (x n)) (i + t) d) (sym (length-spread n))
           ∙ getD-append-add (spread c x n) (replicate (c n) (x n)) t d ∙ getD-replicate (c n) t (x n) d (subst (λ (i : ℕ). t < c i) e m) ∙ ap x (sym e)
+
+-- what stands at k is x of the place that stands at k where the places themselves are spread
+pub spread-from : {A : Type 0} (c : ℕ → ℕ) (x : ℕ → A) (n k : ℕ) (d : A) → k < total c n → getD (spread c x n) k d ≡ x (getD (spread c (λ i. i) n) k 0)
+unfolding spread total
+spread-from c x zero k d h = absurd (not-suc-le-zero h)
+spread-from c x (suc n) k d h =
+    elim (decLt k (total c n)) [
+      | yes l ↦ List·getD-append (spread c x n) (replicate (c n) (x n)) d k (subst (λ (m : ℕ). k < m) (sym (length-spread c x n)) l)
+          ∙ spread-from c x n k d l
+          ∙ sym (ap x (List·getD-append (spread c (λ i. i) n) (replicate (c n) n) 0 k (subst (λ (m : ℕ). k < m) (sym (length-spread c (λ i. i) n)) l)))
+      | no l ↦ last (k - total c n) (omega arith) (omega arith)
+    ]
+  where
+    last : (t : ℕ) → k ≡ total c n + t → t < c n
+        → getD (spread c x n ++ replicate (c n) (x n)) k d ≡ x (getD (spread c (λ i. i) n ++ replicate (c n) n) k 0)
+    last t e m =
+        ap (λ (j : ℕ). getD (spread c x (suc n)) j d) e ∙ spread-at c x n (suc n) t d (omega arith) m
+        ∙ sym (ap x (ap (λ (j : ℕ). getD (spread c (λ i. i) (suc n)) j 0) e ∙ spread-at c (λ i. i) n (suc n) t 0 (omega arith) m))
 
 pub spread-cong : {A : Type 0} (c : ℕ → ℕ) (x y : ℕ → A) (n : ℕ) → ((k : ℕ) → k < n → x k ≡ y k) → spread c x n ≡ spread c y n
 unfolding spread

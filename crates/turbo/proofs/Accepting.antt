@@ -65,7 +65,7 @@ module _ (p n : ℕ) (lane out : List ℕ) (h : Accepted p n (length out)) where
       record { pattern = b .0; some = b .1; most = b .2; groups = omega (arith, b .2); full = fills }
 
 -- each symbol of a group is a bit
-group-bits : (w : List ℕ) (n i : ℕ) → Below 2 (group w n i) × (length (group w n i) ≡ 5)
+pub group-bits : (w : List ℕ) (n i : ℕ) → Below 2 (group w n i) × (length (group w n i) ≡ 5)
 unfolding group dataSymbols tailSymbols1 tailSymbols2 y0 y1 feed
 group-bits w n i =
     five (ltb i n) _ _ (periods (state (bitAt w) i) (second w n i) (state (second w n) i) (bit-lt w i))
