@@ -3,3 +3,4 @@ pub mod Choice
 pub mod Table
 pub mod Copy
 pub mod Fill
+pub mod Faults

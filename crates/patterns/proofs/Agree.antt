@@ -15,9 +15,9 @@ use Rattle.patterns.proofs.code_length.Reads as code-length-reads
 use Rattle.patterns.proofs.block_by as block-by
 use Rattle.patterns.proofs.block_by.Kinds as block-by-kinds
 use Rattle.patterns.proofs.block_by.Reads as block-by-reads
-use Rattle.patterns.proofs.unpaired as unpaired
-use Rattle.patterns.proofs.unpaired.Kinds as unpaired-kinds
-use Rattle.patterns.proofs.unpaired.Reads as unpaired-reads
+use Rattle.patterns.proofs.unfit as unfit
+use Rattle.patterns.proofs.unfit.Kinds as unfit-kinds
+use Rattle.patterns.proofs.unfit.Reads as unfit-reads
 use Rattle.patterns.proofs.rows.entries as entries
 use Rattle.patterns.proofs.rows.entries.Kinds as entries-kinds
 use Rattle.patterns.proofs.rows.entries.Reads as entries-reads
@@ -53,10 +53,10 @@ module _ (κs : Lfts 0) (a : ArgsD code-length.signature κs) where
       code-length-reads.Post κs a r s → code-length-reads.Post κs a r′ s′ → r ≡ r′
   code-length-agrees r r′ s s′ p q = same p q
 
-module _ (κs : Lfts 0) (a : ArgsD unpaired.signature κs) where
-  pub unpaired-agrees : (r r′ : ResD unpaired.signature κs) (s s′ : AtExit (endedOf 0 unpaired-kinds.ps unpaired-kinds.r) κs) →
-      unpaired-reads.Post κs a r s → unpaired-reads.Post κs a r′ s′ → r ≡ r′
-  unpaired-agrees r r′ s s′ p q = same p q
+module _ (κs : Lfts 0) (a : ArgsD unfit.signature κs) where
+  pub unfit-agrees : (r r′ : ResD unfit.signature κs) (s s′ : AtExit (endedOf 0 unfit-kinds.ps unfit-kinds.r) κs) →
+      unfit-reads.Post κs a r s → unfit-reads.Post κs a r′ s′ → r ≡ r′
+  unfit-agrees r r′ s s′ p q = same p q
 
 module _ (κs : Lfts 0) (a : ArgsD block-by.signature κs) where
   pub block-by-agrees : (r r′ : ResD block-by.signature κs) (s s′ : AtExit (endedOf 0 block-by-kinds.ps block-by-kinds.r) κs) →

@@ -3,14 +3,15 @@
 use Prim.Native.Nat.{ℕ, _≤_, _<_}
 use mathlib.Core.Path.{_≡_, refl, sym, ap, _∙_}
 use mathlib.Core.Bool.{Bool, true, false}
+use mathlib.Core.List.{List, _++_}
 use mathlib.Core.Logic.{_⊎_, inl, inr, ⊎-elim}
 use native.Mathlib.Omega.{arith}
 use lib.Dec.{eqb, ltb}
-use borrow.Author.Tests.{eq-eqb, eqb-false, ltb-false, le-ltb}
-use Rattle.ground.specs.Choice.{choose, both}
-use Rattle.ground.proofs.Choice.{choose-false}
-use Rattle.patterns.specs.Blocks.{blockBy, unpaired, Coded}
-use Rattle.patterns.specs.Sent.{codeLength}
+use borrow.Author.Tests.{eq-eqb, eqb-false, ltb-false}
+use Rattle.ground.specs.Choice.{choose, both, Fault, firstOf}
+use Rattle.ground.proofs.Choice.{all-clear}
+use Rattle.ground.proofs.Faults.{first-after, first-parts}
+use Rattle.patterns.specs.Blocks.{blockBy, unpaired, blockFaults, Coded}
 
 block-cases : (payload signalling len : ℕ) → eqb (blockBy payload signalling len) 0 ≡ false → (blockBy payload signalling len ≡ 12282) ⊎ (blockBy payload signalling len ≡ 762)
 unfolding blockBy
@@ -22,7 +23,7 @@ block-cases payload signalling len = go (eqb len payload) (eqb len signalling)
     go false false h = absurd (eqb-false 0 0 h refl)
 
 -- there is a block, there is a pattern, and they go together
-pub block-coded : (payload signalling len p : ℕ) → eqb (blockBy payload signalling len) 0 ≡ false → ltb 27 p ≡ false → unpaired p (blockBy payload signalling len) ≡ false
+block-coded : (payload signalling len p : ℕ) → eqb (blockBy payload signalling len) 0 ≡ false → ltb 27 p ≡ false → unpaired p (blockBy payload signalling len) ≡ false
     → Coded p (blockBy payload signalling len)
 unfolding unpaired
 block-coded payload signalling len p h u q =
@@ -38,6 +39,28 @@ block-coded payload signalling len p h u q =
 pub coded-bounds : (p n : ℕ) → Coded p n → (p < 28) × (0 < n) × (n ≤ 12282)
 coded-bounds p n = ⊎-elim (λ w. omega arith) (λ w. omega arith)
 
--- the code's length of a codeword is the codeword's
-pub coded-length : (p n : ℕ) → Coded p n → choose (ltb 12282 n) 0 (codeLength p n) ≡ codeLength p n
-coded-length p n h = choose-false 0 (codeLength p n) (le-ltb 12282 n (coded-bounds p n h .2))
+-- how large a block is at most
+pub block-le : (payload signalling len : ℕ) → blockBy payload signalling len ≤ 12282
+unfolding blockBy
+block-le payload signalling len = go (eqb len payload) (eqb len signalling)
+  where
+    go : (a b : Bool) → choose {A = ℕ} a 12282 (choose b 762 0) ≤ 12282
+    go true b = omega arith
+    go false true = omega arith
+    go false false = omega arith
+
+-- where nothing is found of a block and a pattern, the block is coded under it
+pub fit-coded : (payload signalling len p : ℕ) → firstOf (blockFaults p (blockBy payload signalling len)) ≡ 0 → Coded p (blockBy payload signalling len)
+unfolding blockFaults
+fit-coded payload signalling len p e =
+    let c = all-clear (blockFaults p (blockBy payload signalling len)) tt e in
+    block-coded payload signalling len p (c .0) (c .1 .0) (c .1 .1 .0)
+
+-- what is looked for behind the block and the pattern
+pub fit-after : (p n : ℕ) (m : List Fault) → firstOf (blockFaults p n) ≡ 0 → firstOf (blockFaults p n ++ m) ≡ firstOf m
+unfolding blockFaults
+fit-after p n m e = first-after (blockFaults p n) m tt e
+
+pub fit-parts : (p n : ℕ) (m : List Fault) → firstOf (blockFaults p n ++ m) ≡ 0 → (firstOf (blockFaults p n) ≡ 0) × (firstOf m ≡ 0)
+unfolding blockFaults
+fit-parts p n m e = first-parts (blockFaults p n) m tt e

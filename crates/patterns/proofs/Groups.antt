@@ -17,6 +17,10 @@ use Rattle.ground.proofs.Table.{at-all, getD-tab}
 use Rattle.patterns.specs.Rows.{dataRows, dataGroup, tailGroup, groupAt, digit, copies}
 use Rattle.patterns.specs.Walk.{entries, nextEntry}
 
+pub digit-lt : (x s : ℕ) → digit x s < 8
+unfolding digit
+digit-lt x s = omega arith
+
 module _ (p n : ℕ) where
   pub group-data : (i : ℕ) → i < n → groupAt p n i ≡ dataGroup p i
   unfolding groupAt

@@ -3,9 +3,9 @@ pub mod rows;
 
 ghost use mathlib.Core.Path.{_≡_};
 ghost use lib.Dec.{ltb};
-ghost use Rattle.ground.specs.Choice.{choose};
+ghost use Rattle.ground.specs.Choice.{choose, firstOf};
 ghost use Rattle.patterns.specs.Rates.{unitsOf};
-ghost use Rattle.patterns.specs.Blocks.{blockBy, unpaired};
+ghost use Rattle.patterns.specs.Blocks.{blockBy, unpaired, blockFaults};
 ghost use Rattle.patterns.specs.Sent.{codeLength};
 
 // 6 divided by the rate, by pattern number.
@@ -74,8 +74,26 @@ pub fn block_by(payload: usize, signalling: usize, len: usize) -> usize
 }
 
 // The block of 762 bits with a pattern other than 0.
-pub fn unpaired(pattern: usize, n: usize) -> bool
+fn unpaired(pattern: usize, n: usize) -> bool
     ensures { λ r. ⌜ r ≡ unpaired pattern n ⌝ }
 {
     if n == 762 { 0 < pattern } else { false }
+}
+
+// Why a block of n bits is not coded under a pattern: 1 where there is no block, 3 for a number above 27, 4 for the block of 762 bits with a pattern other than 0; 0 if it is.
+pub fn unfit(pattern: usize, n: usize) -> u8
+    ensures { λ r. ⌜ r ≡ firstOf (blockFaults pattern n) ⌝ }
+{
+    let unknown = 27 < pattern;
+    let other = unpaired(pattern, n);
+    if n == 0 {
+        return 1;
+    }
+    if unknown {
+        return 3;
+    }
+    if other {
+        return 4;
+    }
+    0
 }

@@ -18,16 +18,16 @@ use Rattle.bits.proofs.Lists.{bits-num}
 use Rattle.bits.proofs.Places.{bit-lt}
 use Rattle.bits.proofs.Joined.{bits-at}
 use Rattle.patterns.specs.Rows.{copies}
-use Rattle.patterns.specs.Blocks.{unpaired, Coded}
+use Rattle.patterns.specs.Blocks.{Coded}
 use Rattle.patterns.specs.Sent.{places, spread, total, codeLength}
-use Rattle.patterns.proofs.Blocks.{block-coded, coded-bounds, coded-length}
+use Rattle.patterns.proofs.Blocks.{fit-coded, fit-parts, coded-bounds}
 use Rattle.patterns.proofs.Length.{Length, length-rule}
 use Rattle.patterns.proofs.Spread.{spread-cong}
 use Rattle.interleaver.specs.Once.{Block}
 use Rattle.turbo.specs.Constituent.{y0, y1, state, feed, clocked}
 use Rattle.turbo.specs.Lane.{second, dataSymbols, tailSymbols1, tailSymbols2, group, laneBit}
 use Rattle.turbo.specs.declared.constituent.State.{State}
-use Rattle.turbo.specs.Encode.{blockOf, codeBits, codeword, faults, refusal, encoded}
+use Rattle.turbo.specs.Encode.{blockOf, codeBits, codeword, wordFaults, faults, refusal, encoded}
 use Rattle.turbo.specs.Inside.{symbol, byteBit, Sendable, Grouped}
 
 -- what is left where nothing is refused
@@ -36,17 +36,15 @@ pub record Accepted (p n bytes : ℕ) : Type 0 where
   pub size : bytes ≡ codeLength p n / 8
 
 pub accepted : (p : ℕ) (w : List ℕ) (bytes : ℕ) → refusal p w bytes ≡ 0 → Accepted p (blockOf w) bytes
-unfolding refusal faults
+unfolding refusal faults wordFaults
 accepted p w bytes e =
     let n : ℕ = blockOf w in
-    let c = all-clear (faults p n w bytes) tt e in
-    record { coded = block-coded 1536 96 (length w) p (c .0) (c .1 .0) (c .1 .1 .0); size = eqb-true bytes (codeLength p n / 8) (not-false (eqb bytes (codeLength p n / 8)) (c .1 .1 .1 .0)) }
-
--- the codeword's length, where there is a block and a pattern for it
-pub told-length : (p n r : ℕ) (w : List ℕ) → n ≡ blockOf w → eqb n 0 ≡ false → ltb 27 p ≡ false → unpaired p n ≡ false
-    → r ≡ choose (ltb 12282 n) 0 (codeLength p n) → r ≡ codeLength p n
-told-length p n r w e a b c h =
-    h ∙ coded-length p n (subst (λ (m : ℕ). eqb m 0 ≡ false → unpaired p m ≡ false → Coded p m) (sym e) (λ x y. block-coded 1536 96 (length w) p x b y) a c)
+    let parts = fit-parts p n (wordFaults p n w bytes) e in
+    let c = all-clear (wordFaults p n w bytes) tt (parts .1) in
+    record {
+      coded = fit-coded 1536 96 (length w) p (parts .0);
+      size = eqb-true bytes (codeLength p n / 8) (not-false (eqb bytes (codeLength p n / 8)) (c .0));
+    }
 
 -- a block that is coded is one of the two
 pub coded-block : (p n : ℕ) → Coded p n → Block n

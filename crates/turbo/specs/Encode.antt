@@ -2,14 +2,14 @@
 -- Assumes nothing.
 use Prim.Native.Nat.{ℕ, _/_}
 use mathlib.Core.Bool.{not}
-use mathlib.Core.List.{List, [], _∷_}
-use lib.Dec.{eqb, ltb}
+use mathlib.Core.List.{List, [], _∷_, _++_}
+use lib.Dec.{eqb}
 use lib.ListN.{length, getD}
 use Rattle.ground.specs.Outcome.{Outcome}
 use Rattle.ground.specs.Choice.{choose, Fault, refuse, firstOf}
 use Rattle.bits.specs.Places.{packed, fieldAt}
 use Rattle.patterns.specs.Rows.{copies}
-use Rattle.patterns.specs.Blocks.{blockBy, unpaired}
+use Rattle.patterns.specs.Blocks.{blockBy, blockFaults}
 use Rattle.patterns.specs.Sent.{places, spread, codeLength}
 use Rattle.turbo.specs.Lane.{laneBit}
 
@@ -25,14 +25,15 @@ codeBits p n w = spread (copies p n) (laneBit w n) (places n)
 unfoldable pub codeword : ℕ → ℕ → List ℕ → List ℕ
 codeword p n w = packed (λ k. getD (codeBits p n w) k 0) (codeLength p n / 8)
 
--- what is looked for, in order, for a block of n bits and a codeword of so many bytes: the infoword's length, the pattern, the pattern for the short block, the codeword's length, the spare bits
-unfoldable pub faults : ℕ → ℕ → List ℕ → ℕ → List Fault
-faults p n w bytes =
-    refuse 1 (eqb n 0) ∷
-    refuse 3 (ltb 27 p) ∷
-    refuse 4 (unpaired p n) ∷
+-- what is looked for of the words, in order: that the codeword has so many bytes, and that the spare bits are zero
+unfoldable pub wordFaults : ℕ → ℕ → List ℕ → ℕ → List Fault
+wordFaults p n w bytes =
     refuse 1 (not (eqb bytes (codeLength p n / 8))) ∷
     refuse 2 (not (eqb (fieldAt w n 6) 0)) ∷ []
+
+-- what is looked for, in order: 1 3 4 of the block and the pattern, then 1 2
+unfoldable pub faults : ℕ → ℕ → List ℕ → ℕ → List Fault
+faults p n w bytes = blockFaults p n ++ wordFaults p n w bytes
 
 -- the number of the refusal, 0 for accepted
 unfoldable pub refusal : ℕ → List ℕ → ℕ → ℕ

@@ -4,24 +4,19 @@ mod emit;
 mod lane;
 
 ghost use mathlib.Core.Path.{_≡_};
+ghost use Prim.Native.Nat.{_≤_};
+ghost use Rattle.ground.specs.Choice.{firstOf};
 ghost use Rattle.ground.specs.Outcome.{Is};
-ghost use Rattle.turbo.specs.Encode.{refusal, encoded};
+ghost use Rattle.turbo.specs.Encode.{faults, encoded};
 
-// Why a word is not coded into so many bytes, 0 if it is.
-fn refusal(pattern: usize, word: &[u8], bytes: usize) -> u8
-    ensures { λ r. ⌜ r ≡ refusal pattern (now (word .entry)) bytes ⌝ }
+// Why a word of a block of n bits is not coded into so many bytes, 0 if it is.
+fn refusal(pattern: usize, n: usize, word: &[u8], bytes: usize) -> u8
+    requires { ⌜ n ≤ 12282 ⌝ }
+    ensures { λ r. ⌜ r ≡ firstOf (faults pattern n (now (word .entry)) bytes) ⌝ }
 {
-    let n = patterns::block_by(1536, 96, word.len());
-    if n == 0 {
-        return 1;
-    }
-    let unknown = 27 < pattern;
-    let unpaired = patterns::unpaired(pattern, n);
-    if unknown {
-        return 3;
-    }
-    if unpaired {
-        return 4;
+    let unfit = patterns::unfit(pattern, n);
+    if unfit != 0 {
+        return unfit;
     }
     if bytes != patterns::code_length(pattern, n) / 8 {
         return 1;
@@ -37,11 +32,11 @@ pub fn encode(pattern: u32, infoword: &[u8], codeword: &mut [u8]) -> u8
     ensures { λ r. ⌜ Is (encoded pattern (now (infoword .entry)) (now (codeword .entry))) r (now (codeword .exit)) ⌝ }
 {
     let p = pattern as usize;
-    let r = refusal(p, infoword, codeword.len());
+    let n = patterns::block_by(1536, 96, infoword.len());
+    let r = refusal(p, n, infoword, codeword.len());
     if r != 0 {
         return r;
     }
-    let n = patterns::block_by(1536, 96, infoword.len());
     let order = interleaver::order(n);
     let mut groups = [0u8; 12288];
     crate::lane::groups(infoword, &order[..n], &mut groups);
