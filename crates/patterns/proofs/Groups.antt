@@ -14,7 +14,7 @@ use Rattle.ground.specs.Choice.{choose, both}
 use Rattle.ground.specs.Table.{allBelow}
 use Rattle.ground.proofs.Choice.{choose-true, choose-false}
 use Rattle.ground.proofs.Table.{at-all, getD-tab}
-use Rattle.patterns.specs.Rows.{dataRows, dataGroup, tailGroup, groupAt, digit, copies}
+use Rattle.patterns.specs.Rows.{dataRows, tailRows, dataGroup, tailGroup, groupAt, digit, copies}
 use Rattle.patterns.specs.Walk.{entries, nextEntry}
 
 pub digit-lt : (x s : ℕ) → digit x s < 8
@@ -129,3 +129,25 @@ entry-next n i h =
     step q (yes l) (yes w) = choose-true _ _ (eq-eqb (entryOf n i) 11 (entry-data n i l ∙ w)) ∙ sym (entry-data n (i + 1) (omega arith) ∙ omega arith)
     step q (yes l) (no w) = up q (i % 12) (entry-data n i l) w (omega arith) (sym (entry-data n (i + 1) (omega arith) ∙ omega arith))
     step q (no l) w = up q (12 + (i - n)) (entry-tail n i (omega arith)) (omega arith) (omega arith) (sym (entry-tail n (i + 1) (omega arith) ∙ omega arith))
+
+-- no symbol is sent more than three times: the symbol x % 5 of the entry x / 5 % 18 of the pattern x / 90
+few : ℕ → Bool
+few x = leb (digit (groupAt (x / 90) 12 (x / 5 % 18)) (x % 5)) 3
+
+all-few : T (allBelow few 2520)
+unfolding few groupAt dataGroup tailGroup digit dataRows tailRows
+all-few = tt
+
+pub copies-le : (p n k : ℕ) → p < 28 → k < 5 * (n + 6) → copies p n k ≤ 3
+unfolding few copies
+copies-le p n k h l =
+    let j : ℕ = entryOf n (k / 5) in
+    let i : j < 18 = entry-lt n (k / 5) (omega arith) in
+    let x : ℕ = p * 90 + j * 5 + k % 5 in
+    let ep : x / 90 ≡ p = omega arith in
+    let ej : x / 5 % 18 ≡ j = omega arith in
+    let es : x % 5 ≡ k % 5 = omega arith in
+    let t : digit (groupAt (x / 90) 12 (x / 5 % 18)) (x % 5) ≤ 3 = leb→le (digit (groupAt (x / 90) 12 (x / 5 % 18)) (x % 5)) 3 (at-all few 2520 all-few x (omega arith)) in
+    let e : digit (groupAt (x / 90) 12 (x / 5 % 18)) (x % 5) ≡ digit (groupAt p n (k / 5)) (k % 5) =
+    ap₂ digit (ap₂ (λ (q r : ℕ). groupAt q 12 r) ep ej ∙ entry-group n (k / 5) p h) es in
+    omega (arith, t, e)

@@ -1,2 +1,6 @@
 pub mod Sums
 pub mod Groups
+pub mod Received
+pub mod Accepting
+pub mod Range
+pub mod Agree
