@@ -52,6 +52,29 @@ spread-from c x (suc n) k d h =
         ap (λ (j : ℕ). getD (spread c x (suc n)) j d) e ∙ spread-at c x n (suc n) t d (omega arith) m
         ∙ sym (ap x (ap (λ (j : ℕ). getD (spread c (λ i. i) (suc n)) j 0) e ∙ spread-at c (λ i. i) n (suc n) t 0 (omega arith) m))
 
+-- q is the place from which the copy k comes: k is one of its copies, which begin where those of the places before it end
+pub record From (c : ℕ → ℕ) (n k q : ℕ) : Type 0 where
+  pub inside : q < n
+  pub begun : total c q ≤ k
+  pub within : k < total c q + c q
+
+pub spread-place : (c : ℕ → ℕ) (n k : ℕ) → k < total c n → From c n k (getD (spread c (λ i. i) n) k 0)
+unfolding spread total
+spread-place c zero k h = absurd (not-suc-le-zero h)
+spread-place c (suc n) k h =
+    elim (decLt k (total c n)) [
+      | yes l ↦ (
+          let f : From c n k (getD (spread c (λ i. i) n) k 0) = spread-place c n k l in
+          let e : getD (spread c (λ i. i) (suc n)) k 0 ≡ getD (spread c (λ i. i) n) k 0 =
+          List·getD-append (spread c (λ i. i) n) (replicate (c n) n) 0 k (subst (λ (m : ℕ). k < m) (sym (length-spread c (λ i. i) n)) l) in
+          subst (From c (suc n) k) (sym e) (record { inside = omega (arith, f .inside); begun = f .begun; within = f .within }))
+      | no l ↦ (
+          let t : ℕ = k - total c n in
+          let at : k ≡ total c n + t = omega arith in
+          let e : getD (spread c (λ i. i) (suc n)) k 0 ≡ n = ap (λ (j : ℕ). getD (spread c (λ i. i) (suc n)) j 0) at ∙ spread-at c (λ i. i) n (suc n) t 0 (omega arith) (omega arith) in
+          subst (From c (suc n) k) (sym e) (record { inside = omega arith; begun = omega arith; within = omega arith }))
+    ]
+
 pub spread-cong : {A : Type 0} (c : ℕ → ℕ) (x y : ℕ → A) (n : ℕ) → ((k : ℕ) → k < n → x k ≡ y k) → spread c x n ≡ spread c y n
 unfolding spread
 spread-cong c x y zero h = refl

@@ -3,4 +3,5 @@ pub mod Groups
 pub mod Received
 pub mod Accepting
 pub mod Range
+pub mod Codeword
 pub mod Agree
