@@ -12,7 +12,7 @@ use lib.Seq.{take-suc, getD-drop}
 use lib.IntN.{ℤ, pos, negsuc, _+ℤ_, subℕ, +ℤ-assoc, +ℤ-idl, +ℤ-idr}
 use lib.Signed.{mag}
 use mir.Syntax.{w8, w16}
-use mir.Val.{ofZ, toZ, SFits}
+use mir.Val.{ofZ, toZ}
 use mir.ValLaws.{toZ-ofZ}
 use Rattle.placement.specs.Place.{held}
 use Rattle.placement.specs.Inside.{run}
@@ -42,12 +42,13 @@ mag-add (pos a) (negsuc b) = sub-mag (ltb a (suc b)) (suc b - suc a) (a - suc b)
 mag-add (negsuc a) (pos b) = sub-mag (ltb b (suc a)) (suc a - suc b) (b - suc a) (a + b + 1) (omega arith) (omega arith)
 mag-add (negsuc a) (negsuc b) = omega arith
 
--- a signed byte is what its bits say, and so it is after it was widened
+-- a signed number of 8 or 16 bits is what its bits say
 pub byte-back : (x : ℤ) → mag x < 128 → toZ w8 (ofZ w8 x) ≡ x
 byte-back x h = toZ-ofZ w8 x (record { sfits = h })
 
--- the sum of a word of 16 bits and a widened byte
-pub sum-back : (s : ℕ) (S x : ℤ) → s ≡ ofZ w16 S → mag S < 32768 → mag x < 128 → toZ w16 s +ℤ toZ w16 (ofZ w16 (toZ w8 (ofZ w8 x))) ≡ S +ℤ x
-sum-back s S x e h k =
-    ap₂ _+ℤ_ (ap (toZ w16) e ∙ toZ-ofZ w16 S (record { sfits = h }))
-    (ap (λ (z : ℤ). toZ w16 (ofZ w16 z)) (byte-back x k) ∙ toZ-ofZ w16 x (record { sfits = omega arith }))
+pub word-back : (x : ℤ) → mag x ≤ 1200 → toZ w16 (ofZ w16 x) ≡ x
+word-back x h = toZ-ofZ w16 x (record { sfits = omega arith })
+
+-- the machine's sum of a sum and a widened byte
+pub sum-back : (s x : ℤ) → mag s ≤ 1024 → mag x < 128 → toZ w16 (ofZ w16 s) +ℤ toZ w16 (ofZ w16 (toZ w8 (ofZ w8 x))) ≡ s +ℤ x
+sum-back s x h k = ap₂ _+ℤ_ (word-back s (omega arith)) (ap (λ (z : ℤ). toZ w16 (ofZ w16 z)) (byte-back x k) ∙ word-back x (omega arith))

@@ -1,12 +1,22 @@
 // Placement: received values go to the places of the encoder's output from which they were sent (clauses 4.4.2 and 4.4.3).
 ghost use mathlib.Core.Path.{_≡_};
 ghost use Prim.Native.Nat.{_+_, _<_, _≤_};
+ghost use lib.IntN.{_+ℤ_};
 ghost use lib.ListN.{length};
+ghost use lib.Signed.{mag};
 ghost use Rattle.ground.specs.Outcome.{Is};
 ghost use Rattle.patterns.specs.Rows.{digit};
 ghost use Rattle.patterns.specs.Sent.{total};
 ghost use Rattle.placement.specs.Place.{held, placing};
 ghost use Rattle.placement.specs.Inside.{run, placedGroup, Placeable, Placed};
+
+// A sum with one value more.
+fn added(sum: i16, value: i8) -> i16
+    requires { ⌜ mag sum ≤ 1024 ⌝ }
+    ensures { λ r. ⌜ r ≡ sum +ℤ value ⌝ }
+{
+    sum + value as i16
+}
 
 // What a place holds: the sum of its copies, which are the n values from a place on.
 fn held(values: &[i8], at: usize, n: u8) -> i16
@@ -16,7 +26,7 @@ fn held(values: &[i8], at: usize, n: u8) -> i16
     let mut sum: i16 = 0;
     let mut t = 0;
     while t < n {
-        sum += values[at + t as usize] as i16;
+        sum = added(sum, values[at + t as usize]);
         t += 1;
     }
     sum

@@ -1,21 +1,21 @@
 -- `placement::held` meets its contract: the sum of t values has at most t times a byte's size, so that nothing wraps. Assumes nothing.
 use Prim.Native.Nat.{ℕ, _+_, _-_, _*_, _≤_, _<_}
-use mathlib.Core.Path.{_≡_, refl, sym, ap, _∙_, subst}
+use mathlib.Core.Path.{_≡_, refl, sym, ap, ap₂, _∙_, subst}
 use native.Mathlib.Nat.{le-antisymm}
 use native.Mathlib.Omega.{arith}
 use lib.ListN.{length, getD}
 use lib.IntN.{ℤ, pos, _+ℤ_}
 use lib.Signed.{mag}
-use mir.Syntax.{w16}
-use mir.Val.{ofZ, toZ, SFits}
-use mir.ValLaws.{toZ-ofZ}
+use mir.Syntax.{w8, w16}
+use mir.Val.{ofZ, toZ}
 use Rattle.placement.specs.Place.{held}
 use Rattle.placement.specs.Inside.{run}
-use Rattle.placement.proofs.Sums.{run-held, mag-add, byte-back, sum-back}
+use Rattle.placement.proofs.Sums.{run-held, mag-add, byte-back, word-back}
 use Rattle.placement.proofs.held.Statement.{statement}
 use Rattle.placement.proofs.held.Tie as tie
 use Rattle.placement.proofs.held.Reads as reads
 use Rattle.placement.proofs.held.Lts as lts
+use Rattle.placement.proofs.added.Reads as added-reads
 
 abbrev Inv-loop : tie.InvT-loop
 Inv-loop values at n sum₀ t₀ sum t = (t ≤ n) × (sum ≡ ofZ w16 (held (run values at t))) × (mag (held (run values at t)) ≤ 128 * t)
@@ -27,31 +27,28 @@ loop-holds : tie.Need-loop-holds Inv-loop μ-loop
 unfolding held
 loop-holds c = (omega arith, refl, omega arith)
 
-cast-sum : tie.Need-cast-sum Inv-loop μ-loop
-cast-sum c = omega arith
+cast-added : tie.Need-cast-added Inv-loop μ-loop
+cast-added c = omega arith
 
-add-sum : tie.Need-add-sum Inv-loop μ-loop
-add-sum c = omega (arith, c .before .before .pre .1, c .loop-test .taken)
+add-added : tie.Need-add-added Inv-loop μ-loop
+add-added c = omega (arith, c .before .before .pre .1, c .loop-test .taken)
 
-shared-slice-copy-out-sum : tie.Need-shared-slice-copy-out-sum Inv-loop μ-loop
-shared-slice-copy-out-sum c = omega (arith, c .before .before .pre .1, c .loop-test .taken)
+shared-slice-copy-out-added : tie.Need-shared-slice-copy-out-added Inv-loop μ-loop
+shared-slice-copy-out-added c = omega (arith, c .before .before .pre .1, c .loop-test .taken)
 
-cast-sum-2 : tie.Need-cast-sum-2 Inv-loop μ-loop
-cast-sum-2 c =
-    let a = c .before .before .before .args in
-    let x : ℤ = getD (a .values .now) (a .at + c .before .before .loop .t) (pos 0) in
-    let h : mag x < 32768 = omega (arith, c .sum .given) in
-    subst (SFits w16) (sym (byte-back x (c .sum .given))) (record { sfits = h })
-
-add-sum-2 : tie.Need-add-sum-2 Inv-loop μ-loop
-add-sum-2 c =
-    let a = c .before .before .before .args in
-    let l = c .before .before .loop in
+-- the sum at the head of the loop, and its size
+so-far : (c : tie.At-loop Inv-loop μ-loop)
+    → (toZ w16 (c .loop .sum) ≡ held (run (c .before .args .values .now) (c .before .args .at) (c .loop .t)))
+    × (mag (held (run (c .before .args .values .now) (c .before .args .at) (c .loop .t))) ≤ 1024)
+so-far c =
+    let a = c .before .args in
+    let l = c .loop in
     let S : ℤ = held (run (a .values .now) (a .at) (l .t)) in
-    let x : ℤ = getD (a .values .now) (a .at + l .t) (pos 0) in
-    let m : mag S < 32768 = omega (arith, l .inv .2, c .before .loop-test .taken, c .before .before .before .pre .0) in
-    subst (SFits w16) (sym (sum-back (l .sum) S x (l .inv .1) m (c .sum .given)))
-    (record { sfits = omega (arith, mag-add S x, l .inv .2, c .sum .given, c .before .loop-test .taken, c .before .before .before .pre .0) })
+    let m : mag S ≤ 1024 = omega (arith, l .inv .2, l .inv .0, c .before .pre .0) in
+    (ap (toZ w16) (l .inv .1) ∙ word-back S (omega arith), m)
+
+added-requires : tie.Need-added-requires Inv-loop μ-loop
+added-requires c κs = let s : mag (toZ w16 (c .before .before .loop .sum)) ≤ 1024 = subst (λ (z : ℤ). mag z ≤ 1024) (sym (so-far (c .before .before) .0)) (so-far (c .before .before) .1) in omega arith
 
 add-t : tie.Need-add-t Inv-loop μ-loop
 add-t c = omega arith
@@ -61,24 +58,20 @@ loop-less c = omega arith
 
 loop-again : tie.Need-loop-again Inv-loop μ-loop
 loop-again c =
-    let a = c .before .before .before .args in
-    let l = c .before .before .loop in
+    let a = c .before .before .before .before .args in
+    let l = c .before .before .before .loop in
+    let t = c .before .before .loop-test .taken in
     let S : ℤ = held (run (a .values .now) (a .at) (l .t)) in
     let x : ℤ = getD (a .values .now) (a .at + l .t) (pos 0) in
-    let m : mag S < 32768 = omega (arith, l .inv .2, c .before .loop-test .taken, c .before .before .before .pre .0) in
-    let e : held (run (a .values .now) (a .at) (l .t + 1)) ≡ S +ℤ x = run-held (a .values .now) (a .at) (l .t) (omega (arith, c .before .before .before .pre .1, c .before .loop-test .taken)) in (
-      omega (arith, c .before .loop-test .taken),
-      ap (ofZ w16) (sum-back (l .sum) S x (l .inv .1) m (c .sum .given) ∙ sym e),
-      subst (λ (z : ℤ). mag z ≤ 128 * (l .t + 1)) (sym e) (omega (arith, mag-add S x, l .inv .2, c .sum .given)),
-    )
+    let h : mag x < 128 = c .before .added-arg .given in
+    let e : held (run (a .values .now) (a .at) (l .t + 1)) ≡ S +ℤ x = run-held (a .values .now) (a .at) (l .t) (omega (arith, c .before .before .before .before .pre .1, t)) in
+    let r : c .added .result ≡ S +ℤ x = c .added .ensures ∙ ap₂ _+ℤ_ (so-far (c .before .before .before) .0) (byte-back x h) in
+    (omega (arith, t), ap (ofZ w16) (r ∙ sym e), subst (λ (z : ℤ). mag z ≤ 128 * (l .t + 1)) (sym e) (omega (arith, mag-add S x, l .inv .2, h)))
 
 returns : tie.Need-returns Inv-loop μ-loop
 returns c =
     let a = c .before .before .args in
-    let l = c .before .loop in
-    let S : ℤ = held (run (a .values .now) (a .at) (l .t)) in
-    let m : mag S < 32768 = omega (arith, l .inv .2, l .inv .0, c .before .before .pre .0) in
-    ap (toZ w16) (l .inv .1) ∙ toZ-ofZ w16 S (record { sfits = m }) ∙ ap (λ (t : ℕ). held (run (a .values .now) (a .at) t)) (le-antisymm (l .inv .0) (c .loop-test .left))
+    so-far (c .before) .0 ∙ ap (λ (t : ℕ). held (run (a .values .now) (a .at) t)) (le-antisymm (c .before .loop .inv .0) (c .loop-test .left))
 
 pub held-spec : {M : Type 1} → statement M
 held-spec =
@@ -87,11 +80,10 @@ held-spec =
     Inv-loop
     μ-loop
     loop-holds
-    cast-sum
-    add-sum
-    shared-slice-copy-out-sum
-    cast-sum-2
-    add-sum-2
+    cast-added
+    add-added
+    shared-slice-copy-out-added
+    added-requires
     add-t
     loop-less
     loop-again

@@ -56,7 +56,7 @@ kept c =
     ap length (c .loop .inv .1 .memory) ∙ group-length (a .values .now) (a .at) (a .counts) (a .lane .now) (a .k) (c .loop .j)
 
 held-requires : tie.Need-held-requires Inv-loop μ-loop
-held-requires c κs = (small c, enough c)
+held-requires c κs = omega (arith, small c, enough c)
 
 add-t11 : tie.Need-add-t11 Inv-loop μ-loop
 add-t11 c = omega (arith, c .before .before .before .before .pre .1, c .before .before .loop-test .taken)
