@@ -3,3 +3,5 @@ pub mod Choice
 pub mod Table
 pub mod Copy
 pub mod Repeat
+pub mod Fill
+pub mod Faults

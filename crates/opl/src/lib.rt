@@ -4,6 +4,8 @@ ghost use Rattle.ground.specs.Outcome.{Is, numberOf};
 ghost use Rattle.description.specs.Word.{reading};
 ghost use Rattle.description.specs.Form1.{writing};
 ghost use Rattle.payload.specs.Answers.{written as payloadWritten, readInto};
+ghost use Rattle.turbo.specs.Encode.{encoded};
+ghost use Rattle.placement.specs.Place.{placing};
 ghost use Rattle.preamble.specs.Preamble.{written};
 
 // The start-of-frame preamble into 32 bytes.
@@ -50,4 +52,20 @@ pub extern "C" fn opl_payload_read(word: &[u8], header: &mut [u8]) -> u8
     ensures { λ r. ⌜ Is (readInto (now (word .entry)) (now (header .entry))) r (now (header .exit)) ⌝ }
 {
     payload::read_into(word, header)
+}
+
+// An infoword of 1,536 or 96 bytes turbo-encoded under a pattern.
+#[no_mangle]
+pub extern "C" fn opl_encode(pattern: u32, infoword: &[u8], codeword: &mut [u8]) -> u8
+    ensures { λ r. ⌜ Is (encoded pattern (now (infoword .entry)) (now (codeword .entry))) r (now (codeword .exit)) ⌝ }
+{
+    turbo::encode(pattern, infoword, codeword)
+}
+
+// One received value for each code bit to the lane's places.
+#[no_mangle]
+pub extern "C" fn opl_place(pattern: u32, values: &[i8], lane: &mut [i16]) -> u8
+    ensures { λ r. ⌜ Is (placing pattern (now (values .entry)) (now (lane .entry))) r (now (lane .exit)) ⌝ }
+{
+    placement::place(pattern, values, lane)
 }

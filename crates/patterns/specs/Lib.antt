@@ -1,1 +1,5 @@
 pub mod Rates
+pub mod Blocks
+pub mod Rows
+pub mod Sent
+pub mod Walk

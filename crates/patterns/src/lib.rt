@@ -1,6 +1,12 @@
 // The puncturing patterns of the turbo code.
+pub mod rows;
+
 ghost use mathlib.Core.Path.{_≡_};
+ghost use lib.Dec.{ltb};
+ghost use Rattle.ground.specs.Choice.{choose, firstOf};
 ghost use Rattle.patterns.specs.Rates.{unitsOf};
+ghost use Rattle.patterns.specs.Blocks.{blockBy, unpaired, blockFaults};
+ghost use Rattle.patterns.specs.Sent.{codeLength};
 
 // 6 divided by the rate, by pattern number.
 const UNITS: [u8; 28] = [
@@ -42,4 +48,52 @@ pub fn units(pattern: usize) -> u8
         return 0;
     }
     UNITS[pattern]
+}
+
+// The length in bits of the codeword of a block of n bits; 0 for a number that names no pattern, and for a block that is longer than the payload's.
+pub fn code_length(pattern: usize, n: usize) -> usize
+    ensures { λ r. ⌜ r ≡ choose (ltb 12282 n) 0 (codeLength pattern n) ⌝ }
+{
+    if 12282 < n {
+        return 0;
+    }
+    (n + 6) * units(pattern) as usize / 6
+}
+
+// The bits of the block that a length tells, 0 where there is no such block.
+pub fn block_by(payload: usize, signalling: usize, len: usize) -> usize
+    ensures { λ r. ⌜ r ≡ blockBy payload signalling len ⌝ }
+{
+    if len == payload {
+        return 12282;
+    }
+    if len == signalling {
+        return 762;
+    }
+    0
+}
+
+// The block of 762 bits with a pattern other than 0.
+fn unpaired(pattern: usize, n: usize) -> bool
+    ensures { λ r. ⌜ r ≡ unpaired pattern n ⌝ }
+{
+    if n == 762 { 0 < pattern } else { false }
+}
+
+// Why a block of n bits is not coded under a pattern: 1 where there is no block, 3 for a number above 27, 4 for the block of 762 bits with a pattern other than 0; 0 if it is.
+pub fn unfit(pattern: usize, n: usize) -> u8
+    ensures { λ r. ⌜ r ≡ firstOf (blockFaults pattern n) ⌝ }
+{
+    let unknown = 27 < pattern;
+    let other = unpaired(pattern, n);
+    if n == 0 {
+        return 1;
+    }
+    if unknown {
+        return 3;
+    }
+    if other {
+        return 4;
+    }
+    0
 }

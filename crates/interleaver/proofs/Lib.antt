@@ -1,0 +1,5 @@
+pub mod Addresses
+pub mod Kept
+pub mod Inverse
+pub mod Once
+pub mod Agree

@@ -1,0 +1,70 @@
+-- What placement leaves: the lane as it was where it refuses, and else each place with the sum of its copies.
+-- Assumes nothing.
+use Prim.Native.Nat.{ℕ, _+_, _*_, _≤_, _<_}
+use mathlib.Core.Path.{_≡_, refl, sym, ap, ap₂, _∙_, subst}
+use mathlib.Core.Bool.{Bool, true, false}
+use mathlib.Core.List.{List}
+use native.Mathlib.Omega.{arith}
+use lib.Dec.{eqb}
+use lib.ListN.{length, getD}
+use lib.IntN.{ℤ, pos}
+use borrow.Author.Tests.{eq-eqb, ne-eqb, eqb-true}
+use Rattle.ground.specs.Choice.{choose, firstOf}
+use Rattle.ground.specs.Outcome.{Is}
+use Rattle.ground.proofs.Choice.{choose-true, choose-false}
+use Rattle.ground.proofs.Table.{tab-ext}
+use Rattle.patterns.specs.Rows.{copies}
+use Rattle.patterns.specs.Blocks.{blockBy, blockFaults, Coded}
+use Rattle.patterns.specs.Sent.{places, total, sent, codeLength}
+use Rattle.patterns.proofs.Blocks.{fit-coded, coded-bounds}
+use Rattle.patterns.proofs.Length.{length-rule}
+use Rattle.placement.specs.Place.{receivedFrom, held, placed, blockOf, faults, placing}
+use Rattle.placement.specs.Inside.{run, Placeable, Placed}
+use Rattle.placement.proofs.Received.{received-run}
+
+-- the copies of a place are the values behind those of the places before it
+pub received-is : (p n : ℕ) (values : List ℤ) (k : ℕ) → k < places n → receivedFrom (sent p n) values k ≡ run values (total (copies p n) k) (copies p n k)
+unfolding sent
+received-is p n values k h = received-run (copies p n) values k (places n) h
+
+pub placed-is : (p n : ℕ) (values lane : List ℤ) → Placed p n values lane → lane ≡ placed p n values
+unfolding placed
+placed-is p n values lane h =
+    tab-ext (λ k. held (receivedFrom (sent p n) values k)) (pos 0) (places n) lane (h .len) (λ k l. h .holds k l ∙ ap held (sym (received-is p n values k l)))
+
+-- a refusal leaves the lane as it was
+pub refused : (p r : ℕ) (values lane : List ℤ) → r ≡ firstOf (faults p (blockOf lane) (length values)) → (r ≡ 0 → ⊥) → Is (placing p values lane) r lane
+unfolding placing
+refused p r values lane e h = record { answer = e; memory = sym (choose-false _ lane (ne-eqb (firstOf (faults p (blockOf lane) (length values))) 0 (λ z. h (e ∙ z)))) }
+
+pub wrote : (p n : ℕ) (values lane lane' : List ℤ) → n ≡ blockOf lane → firstOf (faults p (blockOf lane) (length values)) ≡ 0 → Placed p n values lane'
+    → Is (placing p values lane) 0 lane'
+unfolding placing
+wrote p n values lane lane' en z h = record {
+  answer = sym z;
+  memory = placed-is p n values lane' h ∙ ap (λ (m : ℕ). placed p m values) en
+      ∙ sym (choose-true _ lane (eq-eqb (firstOf (faults p (blockOf lane) (length values))) 0 z));
+}
+
+-- a lane's length is that of its block's places
+lane-length : (len : ℕ) → (blockBy 61440 3840 len ≡ 0 → ⊥) → len ≡ places (blockBy 61440 3840 len)
+unfolding blockBy
+lane-length len = go (eqb len 61440) (eqb len 3840) refl refl
+  where
+    go : (a b : Bool) → eqb len 61440 ≡ a → eqb len 3840 ≡ b → (choose {A = ℕ} a 12282 (choose b 762 0) ≡ 0 → ⊥) → len ≡ places (choose a 12282 (choose b 762 0))
+    go true b ea eb h = eqb-true len 61440 ea
+    go false true ea eb h = eqb-true len 3840 eb
+    go false false ea eb h = absurd (h refl)
+
+-- where nothing is refused, the values can be placed
+pub placeable : (p n : ℕ) (values lane : List ℤ) → n ≡ blockOf lane → firstOf (blockFaults p n) ≡ 0 → length values ≡ codeLength p n → Placeable p n values lane
+placeable p n values lane e z l =
+    let h : Coded p n = subst (λ (m : ℕ). firstOf (blockFaults p m) ≡ 0 → Coded p m) (sym e) (fit-coded 61440 3840 (length lane) p) z in
+    let b = coded-bounds p n h in
+    record {
+      pattern = b .0;
+      some = b .1;
+      most = b .2;
+      all = length-rule p n h .all ∙ sym l;
+      room = lane-length (length lane) (λ q. omega (arith, b .1, e, q)) ∙ ap places (sym e);
+    }

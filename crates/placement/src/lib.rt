@@ -1,0 +1,83 @@
+// Placement: received values go to the places of the encoder's output from which they were sent (clauses 4.4.2 and 4.4.3).
+ghost use mathlib.Core.Path.{_≡_};
+ghost use Prim.Native.Nat.{_+_, _<_, _≤_};
+ghost use lib.IntN.{_+ℤ_};
+ghost use lib.ListN.{length};
+ghost use lib.Signed.{mag};
+ghost use Rattle.ground.specs.Outcome.{Is};
+ghost use Rattle.patterns.specs.Rows.{digit};
+ghost use Rattle.patterns.specs.Sent.{total};
+ghost use Rattle.placement.specs.Place.{held, placing};
+ghost use Rattle.placement.specs.Inside.{run, placedGroup, Placeable, Placed};
+
+// A sum with one value more.
+fn added(sum: i16, value: i8) -> i16
+    requires { ⌜ mag sum ≤ 1024 ⌝ }
+    ensures { λ r. ⌜ r ≡ sum +ℤ value ⌝ }
+{
+    sum + value as i16
+}
+
+// What a place holds: the sum of its copies, which are the n values from a place on.
+fn held(values: &[i8], at: usize, n: u8) -> i16
+    requires { ⌜ (n < 8) × (at + n ≤ length (now values)) ⌝ }
+    ensures { λ r. ⌜ r ≡ held (run (now (values .entry)) at n) ⌝ }
+{
+    let mut sum: i16 = 0;
+    let mut t = 0;
+    while t < n {
+        sum = added(sum, values[at + t as usize]);
+        t += 1;
+    }
+    sum
+}
+
+// The five places of a group, from the place k on; returns the next value's place.
+fn place_group(values: &[i8], at: usize, counts: u16, lane: &mut [i16], k: usize) -> usize
+    requires { ⌜ (at + total (digit counts) 5 ≤ length (now values)) × (k + 5 ≤ length (now lane)) ⌝ }
+    ensures { λ r. ⌜ Is (placedGroup (now (values .entry)) at counts (now (lane .entry)) k 5) r (now (lane .exit)) ⌝ }
+{
+    let mut v = at;
+    let mut j = 0;
+    while j < 5 {
+        let n = patterns::rows::digit(counts, j);
+        lane[k + j] = held(values, v, n);
+        v += n as usize;
+        j += 1;
+    }
+    v
+}
+
+// All places of a lane of n data groups and the six of the tail.
+fn place_all(pattern: usize, n: usize, values: &[i8], lane: &mut [i16])
+    requires { ⌜ Placeable pattern n (now values) (now lane) ⌝ }
+    ensures { λ _. ⌜ Placed pattern n (now (values .entry)) (now (lane .exit)) ⌝ }
+{
+    let entries = patterns::rows::entries(pattern);
+    let end = n + 6;
+    let mut at = 0;
+    let mut i = 0;
+    let mut j = 0;
+    while i < end {
+        at = place_group(values, at, entries[j], lane, 5 * i);
+        i += 1;
+        j = patterns::rows::next_entry(n, i, j);
+    }
+}
+
+// Places one value for each code bit into the lent lane and returns 0; or returns why not, and leaves the lane as it was.
+pub fn place(pattern: u32, values: &[i8], lane: &mut [i16]) -> u8
+    ensures { λ r. ⌜ Is (placing pattern (now (values .entry)) (now (lane .entry))) r (now (lane .exit)) ⌝ }
+{
+    let p = pattern as usize;
+    let n = patterns::block_by(61440, 3840, lane.len());
+    let unfit = patterns::unfit(p, n);
+    if unfit != 0 {
+        return unfit;
+    }
+    if values.len() != patterns::code_length(p, n) {
+        return 1;
+    }
+    place_all(p, n, values, lane);
+    0
+}

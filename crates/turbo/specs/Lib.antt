@@ -1,0 +1,4 @@
+pub mod Constituent
+pub mod Lane
+pub mod Encode
+pub mod Inside

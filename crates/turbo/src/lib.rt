@@ -1,0 +1,45 @@
+// The turbo encoder (clauses 4.4.2 to 4.4.5).
+mod constituent;
+mod emit;
+mod lane;
+
+ghost use mathlib.Core.Path.{_≡_};
+ghost use Prim.Native.Nat.{_≤_};
+ghost use Rattle.ground.specs.Choice.{firstOf};
+ghost use Rattle.ground.specs.Outcome.{Is};
+ghost use Rattle.turbo.specs.Encode.{faults, encoded};
+
+// Why a word of a block of n bits is not coded into so many bytes, 0 if it is.
+fn refusal(pattern: usize, n: usize, word: &[u8], bytes: usize) -> u8
+    requires { ⌜ n ≤ 12282 ⌝ }
+    ensures { λ r. ⌜ r ≡ firstOf (faults pattern n (now (word .entry)) bytes) ⌝ }
+{
+    let unfit = patterns::unfit(pattern, n);
+    if unfit != 0 {
+        return unfit;
+    }
+    if bytes != patterns::code_length(pattern, n) / 8 {
+        return 1;
+    }
+    if bits::field(word, n, 6) != 0 {
+        return 2;
+    }
+    0
+}
+
+// Codes an infoword under a pattern into the lent codeword and returns 0; or returns why not, and leaves the codeword as it was.
+pub fn encode(pattern: u32, infoword: &[u8], codeword: &mut [u8]) -> u8
+    ensures { λ r. ⌜ Is (encoded pattern (now (infoword .entry)) (now (codeword .entry))) r (now (codeword .exit)) ⌝ }
+{
+    let p = pattern as usize;
+    let n = patterns::block_by(1536, 96, infoword.len());
+    let r = refusal(p, n, infoword, codeword.len());
+    if r != 0 {
+        return r;
+    }
+    let order = interleaver::order(n);
+    let mut groups = [0u8; 12288];
+    crate::lane::groups(infoword, &order[..n], &mut groups);
+    crate::emit::emit(&groups, n, p, codeword);
+    0
+}
