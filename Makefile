@@ -10,9 +10,10 @@ sources := crates.txt $(shell find crates -name must-fail -prune -o \( -type d -
 tools-demo := rt gcc
 tools-test := rt gcc cargo
 tools-lib := rt
+tools-bench := rt gcc cargo
 missing = $(strip $(foreach tool,$1,$(if $(shell command -v $(tool) 2>/dev/null),,$(tool))))
 
-.PHONY: help demo test bench lib clean need-demo need-test need-lib
+.PHONY: help demo test bench lib clean need-demo need-test need-lib need-bench
 .DELETE_ON_ERROR:
 
 help:
@@ -28,8 +29,8 @@ demo: need-demo $(headend)
 test: need-test
 	@bash tools/test.sh
 
-bench:
-	@echo 'bench: there is nothing to compare yet'
+bench: need-bench $(archive)
+	@cd compare && cargo run --release --offline --locked --quiet --bin bench
 
 lib: $(archive)
 
@@ -43,5 +44,5 @@ $(headend): examples/headend.c include/opl.h tools/x86-64.sh $(archive)
 	@mkdir -p $(@D)
 	@sh tools/x86-64.sh build $@ $<
 
-need-demo need-test need-lib: need-%:
+need-demo need-test need-lib need-bench: need-%:
 	$(if $(call missing,$(tools-$*)),$(error make $* needs what is not installed: $(call missing,$(tools-$*)) (README.md, "What must be installed")))@:

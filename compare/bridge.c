@@ -8,6 +8,7 @@
  * significant byte first.
  * The answer, on standard output: the refusal number, one byte; the bytes of each buffer.
  */
+#include <stdbool.h>
 #include <stdint.h>
 #include <stdio.h>
 #include <stdlib.h>
@@ -22,6 +23,14 @@ struct buffer {
     size_t size;
     void *lent;
     size_t n;
+};
+
+struct call {
+    char name[NAME + 1];
+    size_t numbers;
+    size_t buffers;
+    uint32_t number[NUMBERS];
+    struct buffer buffer[BUFFERS];
 };
 
 static void fail(const char *why)
@@ -61,33 +70,62 @@ static void give(const void *from, size_t n)
         fail("an answer was cut short");
 }
 
-static uint8_t call(const char *name, const uint32_t *number, const struct buffer *b)
+/* Takes a call. False if there is none, the caller having closed its end. */
+static bool take_call(struct call *c)
 {
-    (void)number;
-    if (strcmp(name, "opl_preamble") == 0)
+    memset(c, 0, sizeof *c);
+    size_t got = fread(c->name, 1, NAME, stdin);
+    if (got == 0)
+        return false;
+    if (got != NAME)
+        fail("a call was cut short");
+    c->numbers = take_number();
+    c->buffers = take_number();
+    if (c->numbers > NUMBERS || c->buffers > BUFFERS)
+        fail("a call has too many arguments");
+    for (size_t i = 0; i < c->numbers; i++)
+        c->number[i] = take_number();
+    for (size_t i = 0; i < c->buffers; i++)
+        take_buffer(&c->buffer[i]);
+    return true;
+}
+
+static bool is(const struct call *c, const char *name, size_t numbers, size_t buffers)
+{
+    return strcmp(c->name, name) == 0 && c->numbers == numbers && c->buffers == buffers;
+}
+
+static uint8_t refusal_of(const struct call *c)
+{
+    const struct buffer *b = c->buffer;
+    if (is(c, "opl_preamble", 0, 1))
         return opl_preamble(b[0].lent, b[0].n);
-    fail("there is no such function");
+    if (is(c, "opl_signalling_read", 0, 2))
+        return opl_signalling_read(b[0].lent, b[0].n, b[1].lent, b[1].n);
+    if (is(c, "opl_signalling_write", 0, 2))
+        return opl_signalling_write(b[0].lent, b[0].n, b[1].lent, b[1].n);
+    if (is(c, "opl_payload_write", 2, 2))
+        return opl_payload_write(c->number[0], (uint8_t)c->number[1], b[0].lent, b[0].n, b[1].lent,
+                                 b[1].n);
+    if (is(c, "opl_payload_read", 0, 2))
+        return opl_payload_read(b[0].lent, b[0].n, b[1].lent, b[1].n);
+    if (is(c, "opl_encode", 1, 2))
+        return opl_encode(c->number[0], b[0].lent, b[0].n, b[1].lent, b[1].n);
+    if (is(c, "opl_place", 1, 2))
+        return opl_place(c->number[0], b[0].lent, b[0].n, b[1].lent, b[1].n);
+    fail("a function is not there, or has other arguments");
     return 0;
 }
 
 int main(void)
 {
-    char name[NAME + 1] = {0};
-    while (fread(name, 1, NAME, stdin) == NAME) {
-        uint32_t number[NUMBERS] = {0};
-        struct buffer buffer[BUFFERS] = {{0}};
-        size_t numbers = take_number(), buffers = take_number();
-        if (numbers > NUMBERS || buffers > BUFFERS)
-            fail("a call has too many arguments");
-        for (size_t i = 0; i < numbers; i++)
-            number[i] = take_number();
-        for (size_t i = 0; i < buffers; i++)
-            take_buffer(&buffer[i]);
-        uint8_t refusal = call(name, number, buffer);
+    struct call c;
+    while (take_call(&c)) {
+        uint8_t refusal = refusal_of(&c);
         give(&refusal, 1);
-        for (size_t i = 0; i < buffers; i++) {
-            give(buffer[i].memory, buffer[i].size);
-            free(buffer[i].memory);
+        for (size_t i = 0; i < c.buffers; i++) {
+            give(c.buffer[i].memory, c.buffer[i].size);
+            free(c.buffer[i].memory);
         }
         if (fflush(stdout) != 0)
             fail("an answer was cut short");

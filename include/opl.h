@@ -70,6 +70,199 @@ enum opl_refusal {
  */
 uint8_t opl_preamble(uint8_t *out, size_t n);
 
+/* The length of a signalling word, in bytes. */
+#define OPL_SIGNALLING_BYTES 96
+
+/* The room that the reader of a signalling word needs, and the longest sheet that it writes, in bytes. */
+#define OPL_SHEET_ROOM 128
+#define OPL_SHEET_MOST 121
+
+/*
+ * A signalling word (clause 4.10) and its sheet are two forms of one description: the multiplex fields,
+ * p payload pipes, the tail pipe, s streams and d disperser sections.
+ *
+ * A payload pipe of width 0 is not in use: it owns no stream and no section, whatever its two count
+ * fields say. Any other owns Num_STS_1 + 1 streams and Num_Disperser_Sections_1 + 1 sections. The tail
+ * pipe owns one stream if its width is above 0, else none, and never a section. Streams stand in order
+ * of pipe, the tail's last; sections in order of pipe. Every field is carried as it stands, RFU bits and
+ * pattern numbers 28 to 63 too.
+ *
+ * The rules that a description keeps:
+ *
+ *   - Sig_Pipe_Ver is 0.
+ *   - p is Num_Pipes_1, and there is no stream and no section but those that its pipes own.
+ *   - 72 + 48p + 16s + 12d is at most 750, so p is at most 14, s at most 34 and d at most 32.
+ *   - A payload pipe in use with a pattern 0 to 27 has a width that is a multiple of its codeword's
+ *     capacity units, 6 divided by the code rate.
+ *   - The sections of each payload pipe in use have 32 taps together, each section
+ *     (Num_Taps_Div2_1 + 1) x 2.
+ *   - No stream id stands twice.
+ *
+ * The sheet, its numbers with their most significant byte first:
+ *
+ *   byte  0   p, s, d and zero, a byte each
+ *   byte  4   the offsets of the pipes, the streams and the sections, two bytes each:
+ *             21, 21 + 6p and 21 + 6p + 2s
+ *   byte 10   the length of the sheet, two bytes: 21 + 6p + 2s + 2d, at most 121
+ *   byte 12   the multiplex fields (table 15), 7 bytes
+ *   byte 19   the tail pipe (table 16b), 2 bytes
+ *   byte 21   the pipes (table 16), 6 bytes each
+ *             the streams (table 18), 2 bytes each
+ *             the sections (table 19), 2 bytes each, the top four bits zero
+ */
+
+/*
+ * Reads a signalling word: writes the sheet of its description to the front of the room bytes at sheet.
+ * The sheet's length is in the sheet itself, at bytes 10 and 11; the bytes past it stay.
+ *
+ *   word    n bytes, n = 96 (OPL_SIGNALLING_BYTES)
+ *   sheet   room bytes, room at least 128 (OPL_SHEET_ROOM)
+ *
+ * A word is accepted exactly when it is the word of a description that keeps the rules; there is then
+ * just one such description.
+ *
+ * Refusals, in this order, each looked for in the whole word before the next:
+ *
+ *   OPL_LENGTH        n is not 96, or room is below 128
+ *   OPL_SPARE         one of the word's last six bits is set
+ *   OPL_CRC           the CRC-12 is not that of the first 750 bits
+ *   OPL_SIG_PIPE_VER  Sig_Pipe_Ver is not 0
+ *   OPL_LISTS         72 + 48p + 16s + 12d is above 750
+ *   OPL_PADDING       a bit after the lists and before bit 750 is set
+ *   OPL_WIDTH         a width is no such multiple
+ *   OPL_TAPS          the sections of a payload pipe in use do not have 32 taps
+ *   OPL_STREAM_TWICE  a stream id stands twice
+ */
+uint8_t opl_signalling_read(const uint8_t *word, size_t n, uint8_t *sheet, size_t room);
+
+/*
+ * Writes the signalling word of a sheet.
+ *
+ *   sheet   n bytes, of which any number may be lent
+ *   word    m bytes, m = 96 (OPL_SIGNALLING_BYTES)
+ *
+ * A sheet is accepted exactly when it is the sheet of a description that keeps the rules. Reading the
+ * word then gives the sheet back, and writing the sheet of a word that was read gives the word back.
+ *
+ * Refusals, in this order, each looked for in the whole sheet before the next:
+ *
+ *   OPL_LENGTH        m is not 96
+ *   OPL_SHEET_HEADER  n is below 21; or the zero byte, an offset or the length in the header is not
+ *                     what p, s and d in it make it; or n is not that length
+ *   OPL_SECTION_TOP   one of the top four bits of one of the d sections is set
+ *   OPL_SIG_PIPE_VER  Sig_Pipe_Ver is not 0
+ *   OPL_COUNTS        p is not Num_Pipes_1, or s or d is not what the pipes own
+ *   OPL_LISTS         72 + 48p + 16s + 12d is above 750
+ *   OPL_WIDTH         a width is no such multiple
+ *   OPL_TAPS          the sections of a payload pipe in use do not have 32 taps
+ *   OPL_STREAM_TWICE  a stream id stands twice
+ */
+uint8_t opl_signalling_write(const uint8_t *sheet, size_t n, uint8_t *word, size_t m);
+
+/* The length of a payload word, of the payload in it and of its header as it is read, in bytes. */
+#define OPL_PAYLOAD_WORD_BYTES 1536
+#define OPL_PAYLOAD_BYTES 1532
+#define OPL_PAYLOAD_HEADER_BYTES 16
+
+/*
+ * Writes a payload word (clauses 4.3.1 and 4.3.2): the payload, RFU and Encap_Ver as 0, the stream id
+ * and the stream type, the CRC-8 of those 18 header bits, and six spare bits of zero.
+ *
+ *   type      the stream type: 0 (dummy) or 1 (transparent)
+ *   id        the stream id
+ *   payload   n bytes, n = 0 for type 0, whose 1,532 bytes become zero, and 1,532 (OPL_PAYLOAD_BYTES)
+ *             for type 1
+ *   word      m bytes, m = 1,536 (OPL_PAYLOAD_WORD_BYTES)
+ *
+ * Refusals, in this order:
+ *
+ *   OPL_STREAM_TYPE   type is not 0 or 1
+ *   OPL_LENGTH        n is not the type's, or m is not 1,536
+ */
+uint8_t opl_payload_write(uint32_t type, uint8_t id, const uint8_t *payload, size_t n, uint8_t *word,
+                          size_t m);
+
+/*
+ * Reads the header of a payload word. The payload of an accepted word of type 1 is its first 1,532
+ * bytes; a word of type 0 has none, whatever these bytes hold.
+ *
+ *   word     n bytes, n = 1,536 (OPL_PAYLOAD_WORD_BYTES)
+ *   header   m bytes, m = 16 (OPL_PAYLOAD_HEADER_BYTES):
+ *              byte 0   RFU as it stands, four bytes, the most significant first
+ *              byte 4   the stream id
+ *              byte 5   the stream type
+ *              byte 6   Encap_Ver
+ *              byte 7   nine bytes of zero, kept for what later stream types report
+ *
+ * Refusals, in this order:
+ *
+ *   OPL_LENGTH        n is not 1,536, or m is not 16
+ *   OPL_SPARE         one of the word's last six bits is set
+ *   OPL_CRC           the CRC-8 is not that of the 18 header bits
+ *   OPL_ENCAP_VER     Encap_Ver is not 0
+ *   OPL_STREAM_TYPE   the stream type is not 0 or 1
+ */
+uint8_t opl_payload_read(const uint8_t *word, size_t n, uint8_t *header, size_t m);
+
+/* The longest codewords of a payload word and of a signalling word, those of pattern 0, in bytes. */
+#define OPL_PAYLOAD_CODEWORD_MOST 7680
+#define OPL_SIGNALLING_CODEWORD_BYTES 480
+
+/*
+ * Writes the turbo codeword of an infoword (clauses 4.4.2 to 4.4.4). Of the infoword's bits the first N
+ * are coded, 12,282 of a payload word and 762 of a signalling word; no CRC is looked at.
+ *
+ *   pattern    the puncturing pattern (Punct_Pat_ID), 0 to 27; only 0 for a signalling word
+ *   infoword   n bytes, n = 1,536 (a payload word) or 96 (a signalling word)
+ *   codeword   m bytes, (N + 6) / 8 divided by the code rate: for a signalling word 480, for a payload
+ *              word by pattern
+ *
+ *                pattern        rate   bytes     pattern        rate   bytes
+ *                0              1/5    7,680     9, 10          2/5    3,840
+ *                1              2/9    6,912     11, 12         3/7    3,584
+ *                2              1/4    6,144     13, 14, 15     1/2    3,072
+ *                3              2/7    5,376     16, 17, 18     3/5    2,560
+ *                4              3/10   5,120     19, 20, 21     2/3    2,304
+ *                5, 6           1/3    4,608     22, 23, 24     3/4    2,048
+ *                7, 8           3/8    4,096     25, 26, 27     6/7    1,792
+ *
+ * Refusals, in this order:
+ *
+ *   OPL_LENGTH          n is not 1,536 or 96
+ *   OPL_PATTERN         pattern is above 27
+ *   OPL_BLOCK_PATTERN   n is 96 and pattern is not 0
+ *   OPL_LENGTH          m is not the codeword's length
+ *   OPL_SPARE           one of the infoword's last six bits is set
+ */
+uint8_t opl_encode(uint32_t pattern, const uint8_t *infoword, size_t n, uint8_t *codeword, size_t m);
+
+/* The lane of a payload word and of a signalling word, in places. */
+#define OPL_PAYLOAD_LANE 61440
+#define OPL_SIGNALLING_LANE 3840
+
+/*
+ * Places received values, one for each code bit, where the encoder's output had them before puncturing.
+ * The lane has N + 6 groups of five places: first the N data groups X Y0 Y1 Y'0 Y'1; then three tail
+ * groups of encoder 1, with X Y0 Y1 at places 0 1 2; then three of encoder 2, with X' at place 0 and
+ * Y'0 Y'1 at places 3 4. A place becomes the sum of the values of its copies, and 0 where nothing is
+ * sent. Only tail symbols are sent more than once, at most three times: a sum lies within -384 to 381.
+ *
+ *   pattern   the puncturing pattern, 0 to 27; only 0 for a signalling word
+ *   values    n signed bytes, n the number of code bits, eight times a codeword's bytes
+ *   lane      m places of 16 bits, m = 61,440 (N = 12,282, a payload word) or 3,840 (N = 762, a
+ *             signalling word)
+ *
+ * Refusals, in this order:
+ *
+ *   OPL_LENGTH          m is not 61,440 or 3,840
+ *   OPL_PATTERN         pattern is above 27
+ *   OPL_BLOCK_PATTERN   m is 3,840 and pattern is not 0
+ *   OPL_LENGTH          n is not the number of code bits
+ *
+ * Provisional: request 2026-08 will have sums clipped to -127 to 127 and places one byte wide.
+ */
+uint8_t opl_place(uint32_t pattern, const int8_t *values, size_t n, int16_t *lane, size_t m);
+
 #ifdef __cplusplus
 }
 #endif

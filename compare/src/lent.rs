@@ -35,6 +35,12 @@ fn guard<T: Element>(place: usize) -> T {
     T::from_low_bits((place as u64).wrapping_mul(0x9E37_79B9_7F4A_7C15) >> 29)
 }
 
+/// The first place at which two buffers of one length differ.
+pub fn first_difference<T: Element>(one: &[T], other: &[T]) -> Option<usize> {
+    assert_eq!(one.len(), other.len(), "buffers of one length");
+    one.iter().zip(other).position(|(one, other)| one != other)
+}
+
 /// A copy of some elements with guards on both sides, to be lent to one call.
 ///
 /// After the call a buffer that it may write is taken back by [`Lent::hand_back`], and one that it may
@@ -97,12 +103,7 @@ impl<T: Element> Lent<T> {
 
     #[track_caller]
     fn is_as_before(&self, fault: &str) {
-        let changed = self
-            .content()
-            .iter()
-            .zip(&self.before)
-            .position(|(now, then)| now != then);
-        if let Some(offset) = changed {
+        if let Some(offset) = first_difference(self.content(), &self.before) {
             panic!("{fault}, first at offset {offset}");
         }
     }

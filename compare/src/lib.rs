@@ -1,7 +1,9 @@
 //! Tests from outside. [`second`] is an independent implementation, written from the standard and the
-//! scope and never from crates/; [`opl`] calls the proved library; the tests hold one to the other.
+//! scope and never from crates/; [`opl`] calls the proved library; the tests hold one to the other over
+//! made-up [`inputs`].
 
 mod call;
+pub mod inputs;
 pub mod lent;
 pub mod opl;
 pub mod rng;

@@ -31,4 +31,35 @@ impl Rng {
     pub fn bytes(&mut self, n: usize) -> Vec<u8> {
         (0..n).map(|_| self.byte()).collect()
     }
+
+    /// A number from `low` to `high`, both included.
+    pub fn range(&mut self, low: usize, high: usize) -> usize {
+        low + self.below(high - low + 1)
+    }
+
+    pub fn flag(&mut self) -> bool {
+        self.chance(1, 2)
+    }
+
+    /// True `times` out of `of`.
+    pub fn chance(&mut self, times: usize, of: usize) -> bool {
+        self.below(of) < times
+    }
+
+    /// A field of `width` bits, at most 31: now and then its least or greatest value.
+    pub fn field(&mut self, width: u32) -> u32 {
+        let most = (1 << width) - 1;
+        match self.below(8) {
+            0 => 0,
+            1 => most,
+            _ => self.range(0, most as usize) as u32,
+        }
+    }
+
+    pub fn shuffle<T>(&mut self, items: &mut [T]) {
+        for last in (1..items.len()).rev() {
+            let other = self.range(0, last);
+            items.swap(last, other);
+        }
+    }
 }

@@ -11,6 +11,9 @@ pub use bridge::call;
 #[cfg(target_arch = "x86_64")]
 pub use direct::call;
 
+/// Whether calls go through bridge.c, and so through an emulator and a pipe.
+pub const BRIDGED: bool = cfg!(not(target_arch = "x86_64"));
+
 /// Memory with a part in it that is lent.
 pub trait Memory {
     /// All of it, what stands around the lent part too.

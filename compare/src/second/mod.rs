@@ -1,5 +1,15 @@
-//! The second implementation: plain and slow, from EN 302 550-1-1 and the scope alone.
+//! The independent second implementation, the partner that the proved library is compared with. It is
+//! written from the documents alone, the scope ("01" in the comments) and EN 302 550-1-1 V1.1.1 ("004"),
+//! without sight of the library's code or tables. TABLES.md says how the damaged tables of 004 were read.
+#![forbid(unsafe_code)]
 
 pub mod bits;
 pub mod crc;
+pub mod description;
+pub mod interleaver;
+pub mod patterns;
+pub mod payload;
 pub mod preamble;
+pub mod refusal;
+pub mod signalling;
+pub mod turbo;

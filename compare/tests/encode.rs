@@ -1,0 +1,228 @@
+//! opl_encode against the second encoder: the number and every byte of the codeword.
+
+use compare::inputs;
+use compare::lent::first_difference;
+use compare::opl;
+use compare::rng::Rng;
+use compare::second::bits::set_bit;
+use compare::second::patterns::pattern;
+use compare::second::turbo::encode;
+
+/// The number that both encoders give for a codeword of that length, filled at random. Panics unless
+/// they agree on it and on every byte of the codeword.
+#[track_caller]
+fn both(rng: &mut Rng, pattern: u32, infoword: &[u8], length: usize) -> u8 {
+    let held = rng.bytes(length);
+    let (number, expected) = match encode(pattern, infoword, length) {
+        Ok(codeword) => (0, codeword),
+        Err(number) => (number, held.clone()),
+    };
+    let mut codeword = held;
+    let refusal = opl::encode(pattern, infoword, &mut codeword);
+    let input = format!("pattern {pattern}, {} bytes", infoword.len());
+    assert_eq!(refusal, number, "{input} into {length}");
+    assert_eq!(first_difference(&codeword, &expected), None, "{input}");
+    number
+}
+
+/// All that is encoded: the pattern, the bytes of the infoword, the bytes of the codeword.
+fn kinds() -> impl Iterator<Item = (u32, usize, usize)> {
+    (0..28)
+        .map(|number| (number, 1_536, payload_bytes(number)))
+        .chain([(0, 96, 480)])
+}
+
+/// The bytes of a payload word's codeword.
+fn payload_bytes(number: u32) -> usize {
+    pattern(number).expect("one of the 28").code_bits(12_282) / 8
+}
+
+#[test]
+fn random_words() {
+    let mut rng = Rng::new(400);
+    for (pattern, n, length) in kinds() {
+        for _ in 0..12 {
+            let word = inputs::infoword(&mut rng, n);
+            assert_eq!(both(&mut rng, pattern, &word, length), 0);
+        }
+    }
+}
+
+#[test]
+fn words_of_zeros_and_of_ones() {
+    let mut rng = Rng::new(401);
+    for (pattern, n, length) in kinds() {
+        let mut word = vec![0xFF; n];
+        word[n - 1] = 0xC0;
+        assert_eq!(both(&mut rng, pattern, &word, length), 0);
+        // an all-zero word gives an all-zero codeword under each pattern
+        let mut codeword = rng.bytes(length);
+        assert_eq!(opl::encode(pattern, &vec![0; n], &mut codeword), 0);
+        assert!(codeword.iter().all(|byte| *byte == 0), "pattern {pattern}");
+    }
+}
+
+/// Each bit of a signalling word, and some of a payload word under each pattern, the first, the last and
+/// those on either side of the last whole period too.
+#[test]
+fn words_with_a_single_bit() {
+    let mut rng = Rng::new(402);
+    for (pattern, n, length) in kinds() {
+        let bits = 8 * n - 6;
+        let places: Vec<usize> = if n == 96 {
+            (0..bits).collect()
+        } else {
+            let some = (0..20).map(|_| rng.below(bits));
+            some.chain(0..4).chain(bits - 15..bits).collect()
+        };
+        for at in places {
+            let mut word = vec![0; n];
+            set_bit(&mut word, at, true);
+            assert_eq!(both(&mut rng, pattern, &word, length), 0, "bit {at}");
+        }
+    }
+}
+
+/// Several words one after the other, each with its own codeword, and one word twice.
+#[test]
+fn one_word_after_another() {
+    let mut rng = Rng::new(403);
+    let words: Vec<Vec<u8>> = (0..3).map(|_| inputs::infoword(&mut rng, 1_536)).collect();
+    for word in words.iter().chain(&words) {
+        assert_eq!(both(&mut rng, 13, word, payload_bytes(13)), 0);
+    }
+}
+
+/// The codeword of a sum of words is the sum of their codewords.
+#[test]
+fn sums_of_words() {
+    let mut rng = Rng::new(404);
+    let sum = |one: &[u8], other: &[u8]| -> Vec<u8> {
+        one.iter().zip(other).map(|(a, b)| a ^ b).collect()
+    };
+    for (pattern, n, length) in kinds() {
+        let [one, other] = [(); 2].map(|()| inputs::infoword(&mut rng, n));
+        let mut codeword = |word: &[u8]| {
+            let mut codeword = rng.bytes(length);
+            assert_eq!(opl::encode(pattern, word, &mut codeword), 0);
+            codeword
+        };
+        let both = codeword(&sum(&one, &other));
+        assert!(
+            both == sum(&codeword(&one), &codeword(&other)),
+            "pattern {pattern}"
+        );
+    }
+}
+
+#[test]
+fn lengths_of_an_infoword() {
+    let mut rng = Rng::new(405);
+    // around both, and lengths that meet them when cut to 8 or 16 bits
+    let lengths = [
+        0,
+        1,
+        94,
+        95,
+        97,
+        98,
+        192,
+        256 + 96,
+        480,
+        1_532,
+        1_534,
+        1_535,
+        1_537,
+        1_538,
+        3_072,
+        65_536 + 96,
+        65_536 + 1_536,
+    ];
+    for n in lengths {
+        for pattern in [0, 13, 28, u32::MAX] {
+            for length in [0, 480, 3_072, 7_680] {
+                let word = vec![0; n];
+                assert_eq!(both(&mut rng, pattern, &word, length), 1);
+            }
+        }
+        // 1 comes before a spare bit too
+        assert_eq!(both(&mut rng, 0, &vec![0xFF; n], 7_680), 1);
+    }
+}
+
+/// Above 27, and numbers that are a pattern when cut to 5, 6, 8 or 16 bits.
+#[test]
+fn patterns_that_are_refused() {
+    let mut rng = Rng::new(406);
+    let numbers = (28..=66)
+        .chain([127, 128, 254, 255, 256, 257, 256 + 13, 256 + 27])
+        .chain([65_535, 65_536, 65_536 + 27, 1 << 24, 1 << 31, u32::MAX]);
+    for number in numbers {
+        for n in [96, 1_536] {
+            for length in [0, 480, 7_680, 1_792] {
+                let word = inputs::infoword(&mut rng, n);
+                assert_eq!(both(&mut rng, number, &word, length), 3);
+            }
+            // 3 comes before a spare bit
+            assert_eq!(both(&mut rng, number, &vec![0xFF; n], 480), 3);
+        }
+    }
+}
+
+#[test]
+fn signalling_words_take_pattern_0_only() {
+    let mut rng = Rng::new(407);
+    for number in 1..28 {
+        let sixteenth = payload_bytes(number) / 16;
+        for length in [0, 480, sixteenth, payload_bytes(number)] {
+            let word = inputs::infoword(&mut rng, 96);
+            assert_eq!(both(&mut rng, number, &word, length), 4);
+            // 4 comes before a spare bit
+            assert_eq!(both(&mut rng, number, &[0xFF; 96], length), 4);
+        }
+    }
+}
+
+#[test]
+fn lengths_of_a_codeword() {
+    let mut rng = Rng::new(408);
+    for (pattern, n, length) in kinds() {
+        let other = if n == 96 { 7_680 } else { 480 };
+        let wrong = [
+            0,
+            1,
+            length - 1,
+            length + 1,
+            length / 2,
+            2 * length,
+            8 * length,
+            length + 256,
+            length + 65_536,
+            other,
+        ];
+        for wrong in wrong {
+            let word = inputs::infoword(&mut rng, n);
+            assert_eq!(both(&mut rng, pattern, &word, wrong), 1);
+            // 1 comes before a spare bit
+            assert_eq!(both(&mut rng, pattern, &vec![0xFF; n], wrong), 1);
+        }
+    }
+}
+
+#[test]
+fn every_spare_bit() {
+    let mut rng = Rng::new(409);
+    for (pattern, n, length) in kinds() {
+        for spare in (0..6).map(|place| 1 << place).chain([0x3F]) {
+            let mut word = inputs::infoword(&mut rng, n);
+            word[n - 1] |= spare;
+            assert_eq!(both(&mut rng, pattern, &word, length), 2);
+        }
+        // the two bits above them are information
+        for last in [0x00, 0x40, 0x80, 0xC0] {
+            let mut word = inputs::infoword(&mut rng, n);
+            word[n - 1] = last;
+            assert_eq!(both(&mut rng, pattern, &word, length), 0);
+        }
+    }
+}
