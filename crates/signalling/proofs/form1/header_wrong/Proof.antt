@@ -4,6 +4,7 @@ use mathlib.Core.Path.{_≡_, sym, ap, ap₂, _∙_}
 use mathlib.Core.Bool.{Bool, not}
 use lib.Dec.{eqb}
 use lib.ListN.{length, getD}
+use native.Mathlib.Omega.{arith}
 use Rattle.description.specs.Sheet.{streamsFrom, sectionsFrom, sheetEnd}
 use Rattle.description.specs.Form1.{pStated, sStated, dStated, twoAt}
 use Rattle.signalling.proofs.Headers.{short, fourth, pipes-off, streams-off, sections-off, end-off, length-left}
@@ -64,7 +65,7 @@ returns-2 : tie.Need-returns-2
 returns-2 c =
     let sh = c .before .before .before .before .before .before .before .args .sheet .now in
     let long : 21 ≤ length sh = search needs in
-    sym (fourth sh long (λ e. c .if2 .taken (c .before .byte-of4 .ensures .0 ∙ e)))
+    sym (fourth sh long (λ e. omega (arith, c .if2 .taken, c .before .byte-of4 .ensures .0)))
 
 -- src/form1.rt:42:8
 two-at-requires : tie.Need-two-at-requires
@@ -76,7 +77,7 @@ returns-3 c =
     let sh = c .before .before .before .before .before .before .before .before .before .args .sheet .now in
     let long : 21 ≤ length sh = search needs in
     let zero : getD sh 3 0 ≡ 0 = sym (c .before .before .before .byte-of4 .ensures .0) ∙ c .before .before .if2 .left in
-    sym (pipes-off sh long zero (λ e. c .if3 .taken (c .before .two-at .ensures ∙ e)))
+    sym (pipes-off sh long zero (λ e. omega (arith, c .if3 .taken, c .before .two-at .ensures)))
 
 -- src/form1.rt:45:8
 two-at-requires-2 : tie.Need-two-at-requires-2
@@ -92,7 +93,7 @@ returns-4 c =
     let ep : 21 + 6 * c .before .before .before .before .before .before .before .before .byte-of .result ≡ streamsFrom 12 (pStated sh) = ap (λ (k : ℕ). 21 + 6 * k) (c .before .before .before .before .before .before .before .before .byte-of .ensures .0) in
     let es : 21 + 6 * c .before .before .before .before .before .before .before .before .byte-of .result + 2 * c .before .before .before .before .before .before .before .byte-of2 .result ≡ sectionsFrom 12 (pStated sh) (sStated sh) = ap₂ (λ (x y : ℕ). x + 2 * y) ep (c .before .before .before .before .before .before .before .byte-of2 .ensures .0) in
     let ed : 21 + 6 * c .before .before .before .before .before .before .before .before .byte-of .result + 2 * c .before .before .before .before .before .before .before .byte-of2 .result + 2 * c .before .before .before .before .before .before .byte-of3 .result ≡ sheetEnd 12 (pStated sh) (sStated sh) (dStated sh) = ap₂ (λ (x y : ℕ). x + 2 * y) es (c .before .before .before .before .before .before .byte-of3 .ensures .0) in
-    sym (streams-off sh long zero pipes (λ e. c .if4 .taken (c .before .two-at2 .ensures ∙ e ∙ sym ep)))
+    sym (streams-off sh long zero pipes (λ e. omega (arith, c .if4 .taken, c .before .two-at2 .ensures)))
 
 -- src/form1.rt:48:8
 two-at-requires-3 : tie.Need-two-at-requires-3
@@ -109,7 +110,7 @@ returns-5 c =
     let es : 21 + 6 * c .before .before .before .before .before .before .before .before .before .before .byte-of .result + 2 * c .before .before .before .before .before .before .before .before .before .byte-of2 .result ≡ sectionsFrom 12 (pStated sh) (sStated sh) = ap₂ (λ (x y : ℕ). x + 2 * y) ep (c .before .before .before .before .before .before .before .before .before .byte-of2 .ensures .0) in
     let ed : 21 + 6 * c .before .before .before .before .before .before .before .before .before .before .byte-of .result + 2 * c .before .before .before .before .before .before .before .before .before .byte-of2 .result + 2 * c .before .before .before .before .before .before .before .before .byte-of3 .result ≡ sheetEnd 12 (pStated sh) (sStated sh) (dStated sh) = ap₂ (λ (x y : ℕ). x + 2 * y) es (c .before .before .before .before .before .before .before .before .byte-of3 .ensures .0) in
     let streams : twoAt sh 6 ≡ streamsFrom 12 (pStated sh) = sym (c .before .before .before .two-at2 .ensures) ∙ c .before .before .if4 .left ∙ ep in
-    sym (sections-off sh long zero pipes streams (λ e. c .if5 .taken (c .before .two-at3 .ensures ∙ e ∙ sym es)))
+    sym (sections-off sh long zero pipes streams (λ e. omega (arith, c .if5 .taken, c .before .two-at3 .ensures)))
 
 -- src/form1.rt:51:8
 two-at-requires-4 : tie.Need-two-at-requires-4
@@ -127,7 +128,7 @@ returns-6 c =
     let ed : 21 + 6 * c .before .before .before .before .before .before .before .before .before .before .before .before .byte-of .result + 2 * c .before .before .before .before .before .before .before .before .before .before .before .byte-of2 .result + 2 * c .before .before .before .before .before .before .before .before .before .before .byte-of3 .result ≡ sheetEnd 12 (pStated sh) (sStated sh) (dStated sh) = ap₂ (λ (x y : ℕ). x + 2 * y) es (c .before .before .before .before .before .before .before .before .before .before .byte-of3 .ensures .0) in
     let streams : twoAt sh 6 ≡ streamsFrom 12 (pStated sh) = sym (c .before .before .before .before .before .two-at2 .ensures) ∙ c .before .before .before .before .if4 .left ∙ ep in
     let sections : twoAt sh 8 ≡ sectionsFrom 12 (pStated sh) (sStated sh) = sym (c .before .before .before .two-at3 .ensures) ∙ c .before .before .if5 .left ∙ es in
-    sym (end-off sh long zero pipes streams sections (λ e. c .if6 .taken (c .before .two-at4 .ensures ∙ e ∙ sym ed)))
+    sym (end-off sh long zero pipes streams sections (λ e. omega (arith, c .if6 .taken, c .before .two-at4 .ensures)))
 
 -- src/form1.rt:30:1
 returns-7 : tie.Need-returns-7
