@@ -9,3 +9,4 @@ pub mod Sealed
 pub mod Demand
 pub mod Bounds
 pub mod Places
+pub mod Form1
