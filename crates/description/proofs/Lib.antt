@@ -10,3 +10,4 @@ pub mod Demand
 pub mod Bounds
 pub mod Places
 pub mod Form1
+pub mod Restated

@@ -23,16 +23,17 @@ use Rattle.description.specs.Sheet.{sheetEnd}
 use Rattle.description.specs.Tests.{versionFault, listsFault, anySet, widthFault, tapFault, idFault}
 use Rattle.description.specs.Form1.{pStated, sStated, dStated, headerFault, sheetLists, listsStated, topFault, countFault, sheetFaults, checked, writeRefusal, wordOf, writing}
 use Rattle.description.proofs.Tests.{lists-clear}
+use Rattle.description.proofs.Restated.{right-header}
 use Rattle.signalling.specs.Filled.{Stated}
 use Rattle.signalling.proofs.Searches.{judged}
-use Rattle.signalling.proofs.Stated.{header-length, tops-are, version-said, judge-said, pipes-are}
+use Rattle.signalling.proofs.Stated.{tops-are, version-said, judge-said, pipes-are}
 use Rattle.signalling.proofs.Surveys.{refusedBy, lists-found}
 use Rattle.signalling.proofs.Readings.{counted}
 
 -- ---- the tests after the header's, in a sheet whose header is right
 module _ (sh : List ℕ) (right : headerFault sh ≡ false) (p s d : ℕ) (ep : p ≡ pStated sh) (es : s ≡ sStated sh) (ed : d ≡ dStated sh) where
   pub long-enough : length sh ≡ sheetEnd 12 p s d
-  long-enough = header-length sh right ∙ sym (ap₂ (λ (x y : ℕ). sheetEnd 12 x y d) ep es ∙ ap (sheetEnd 12 (pStated sh) (sStated sh)) ed)
+  long-enough = right-header sh right .whole ∙ sym (ap₂ (λ (x y : ℕ). sheetEnd 12 x y d) ep es ∙ ap (sheetEnd 12 (pStated sh) (sStated sh)) ed)
 
   pub lists≡ : sheetLists p s d (unpack sh) ≡ listsStated sh
   unfolding listsStated
