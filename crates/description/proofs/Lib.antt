@@ -11,3 +11,4 @@ pub mod Bounds
 pub mod Places
 pub mod Form1
 pub mod Restated
+pub mod DemandWrite

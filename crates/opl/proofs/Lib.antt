@@ -1,3 +1,4 @@
 pub mod Agree
 pub mod Demand
 pub mod PayloadBack
+pub mod DemandWrite

@@ -14,3 +14,4 @@ pub mod Headers
 pub mod Stated
 pub mod Rasters
 pub mod Judged
+pub mod DemandWrite
