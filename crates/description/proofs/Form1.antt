@@ -28,7 +28,7 @@ use Rattle.description.proofs.Keeps.{Clean}
 
 -- ---- sections under four bits that are zero
 module _ (t : List ℕ) where
-  pub rows-in : (rs : List (List ℕ)) → Each (Row t) rs → Each (Row (4 ∷ t)) (inSheet rs)
+  rows-in : (rs : List (List ℕ)) → Each (Row t) rs → Each (Row (4 ∷ t)) (inSheet rs)
   unfolding Row
   rows-in [] h = tt
   rows-in (r ∷ rs) h = ((omega arith, h .0), rows-in rs (h .1))
@@ -47,7 +47,7 @@ module _ (t : List ℕ) where
       let a = either-false (not (eqb x 0)) (anySet (map (λ r. getD r 0 0) rs)) e in
       ap₂ (λ (y : ℕ) (l : List (List ℕ)). (y ∷ r) ∷ l) (sym (eqb-true x 0 (not-false (eqb x 0) (a .0)))) (in-bare rs (h .1) (a .1))
 
-pub bare-in : (rs : List (List ℕ)) → bare (inSheet rs) ≡ rs
+bare-in : (rs : List (List ℕ)) → bare (inSheet rs) ≡ rs
 bare-in [] = refl
 bare-in (r ∷ rs) = ap (λ (l : List (List ℕ)). r ∷ l) (bare-in rs)
 
@@ -55,7 +55,7 @@ pub bare-length : (rs : List (List ℕ)) → length (bare rs) ≡ length rs
 bare-length [] = refl
 bare-length (r ∷ rs) = ap suc (bare-length rs)
 
-pub in-length : (rs : List (List ℕ)) → length (inSheet rs) ≡ length rs
+in-length : (rs : List (List ℕ)) → length (inSheet rs) ≡ length rs
 in-length [] = refl
 in-length (r ∷ rs) = ap suc (in-length rs)
 

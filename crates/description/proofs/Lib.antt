@@ -12,3 +12,4 @@ pub mod Places
 pub mod Form1
 pub mod Restated
 pub mod DemandWrite
+pub mod RoundTrip

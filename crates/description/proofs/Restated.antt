@@ -145,7 +145,7 @@ module _ (sh : List ℕ) where
   counts-stated f = λ i. f (pipes-long i) (streams-long i) (sections-long i)
 
   module _ (h : firstOf (sheetFaults sh) ≡ 0) where
-    pub right : RightHeader sh
+    right : RightHeader sh
     unfolding sheetFaults
     right = right-header sh (all-clear (sheetFaults sh) tt h .0)
 

@@ -15,3 +15,4 @@ pub mod Stated
 pub mod Rasters
 pub mod Judged
 pub mod DemandWrite
+pub mod RoundTrip
