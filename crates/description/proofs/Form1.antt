@@ -190,26 +190,12 @@ module _ (l : Lists) where
     pub accepted-sheet : Counted l → Clean l → firstOf (sheetFaults (sheetOf l)) ≡ 0
     unfolding sheetFaults topFault countFault sheetOf header
     accepted-sheet c k =
-        clear-all (sheetFaults (sheetOf l)) (
-          header-sheet,
-          (
-            ap (λ (rs : List (List ℕ)). anySet (map (λ r. getD r 0 0) rs)) sections-sheet ∙ ap anySet (tops-zero (l .sections)) ∙ set-none d,
-            (
-              ap (λ (x : Lists). versionFault (x .multiplex)) lists-sheet ∙ k .version,
-              (
-                ap (countFault p s d) lists-sheet
-                    ∙ neither (ap not (eq-eqb p _ (c .pipes))) (neither (ap not (eq-eqb s _ (c .streams))) (ap not (eq-eqb d _ (c .sections)))),
-                (
-                  k .fits,
-                  (
-                    ap (λ (x : Lists). widthFault (x .pipes)) lists-sheet ∙ k .widths,
-                    (
-                      ap (λ (x : Lists). tapFault (x .pipes) (map numTaps (x .sections))) lists-sheet ∙ k .tapped,
-                      (ap (λ (x : Lists). idFault (map stsId (x .streams))) lists-sheet ∙ k .unique, tt),
-                    ),
-                  ),
-                ),
-              ),
-            ),
-          ),
-        )
+        let top = ap (λ (rs : List (List ℕ)). anySet (map (λ r. getD r 0 0) rs)) sections-sheet ∙ ap anySet (tops-zero (l .sections)) ∙ set-none d in
+        let version = ap (λ (x : Lists). versionFault (x .multiplex)) lists-sheet ∙ k .version in
+        let count =
+        ap (countFault p s d) lists-sheet
+        ∙ neither (ap not (eq-eqb p _ (c .pipes))) (neither (ap not (eq-eqb s _ (c .streams))) (ap not (eq-eqb d _ (c .sections)))) in
+        let widths = ap (λ (x : Lists). widthFault (x .pipes)) lists-sheet ∙ k .widths in
+        let tapped = ap (λ (x : Lists). tapFault (x .pipes) (map numTaps (x .sections))) lists-sheet ∙ k .tapped in
+        let unique = ap (λ (x : Lists). idFault (map stsId (x .streams))) lists-sheet ∙ k .unique in
+        clear-all (sheetFaults (sheetOf l)) (header-sheet, (top, (version, (count, (k .fits, (widths, (tapped, (unique, tt))))))))
