@@ -3,12 +3,12 @@
 use Prim.Native.Nat.{ℕ, zero, suc, _+_, _-_, _*_, _/_, _%_, _^_, _≤_, _<_}
 use mathlib.Core.Path.{_≡_, refl, sym, ap, ap₂, _∙_, subst}
 use mathlib.Core.List.{List, [], _∷_, _++_}
-use native.Mathlib.Nat.{pow-suc, mul-assoc, mul-comm, add-mul, mul-add-mod-self-right, mul-add-div-right, mod-eq-of-lt, mod-one, zero-mul}
+use native.Mathlib.Nat.{pow-suc, mul-assoc, mul-comm, add-mul, mul-add-mod-self-right, mul-add-div-right, mod-eq-of-lt, mod-one, zero-mul, lt-of-lt-of-le}
 use native.Mathlib.Numerals.{one-add}
 use native.Mathlib.Omega.{arith}
 use lib.ListN.{length, getD, take, drop, length-append, length-take, length-drop, take-append-drop}
-use lib.Seq.{take-at, drop-at, take-append-le, drop-append-le}
-use lib.Pow.{pow-pos, high, pow-add, mod-pow-add}
+use lib.Seq.{take-at, drop-at, length-take-le, take-append-le, drop-append-le}
+use lib.Pow.{pow-pos, pow-mono, high, pow-add, mod-pow-add}
 use lib.Arith.{digits-lt}
 use Rattle.bits.specs.Lists.{bits, num, unpack, pack, Below}
 use Rattle.bits.proofs.Below.{below-append, below-take, below-drop}
@@ -80,10 +80,23 @@ unfolding unpack
 unpack-append [] b = refl
 unpack-append (x ∷ a) b = rw (unpack-append a b) (sym (mathlib.Core.List.append-assoc (bits 8 x) (unpack a) (unpack b)))
 
+pub unpack-drop : (n : ℕ) (w : List ℕ) → n ≤ length w → drop (8 * n) (unpack w) ≡ unpack (drop n w)
+unpack-drop n w h =
+    ap (λ (x : List ℕ). drop (8 * n) (unpack x)) (sym (take-append-drop n w)) ∙ ap (drop (8 * n)) (unpack-append (take n w) (drop n w))
+    ∙ drop-at (unpack (take n w)) (unpack (drop n w)) (8 * n) (unpack-length (take n w) ∙ ap (λ (k : ℕ). 8 * k) (length-take-le n w h))
+
 pub pack-length : (n : ℕ) (l : List ℕ) → length (pack n l) ≡ n
 unfolding pack
 pack-length zero l = refl
 pack-length (suc n) l = ap suc (pack-length n (drop 8 l))
+
+pub pack-below : (n : ℕ) (l : List ℕ) → Below 2 l → Below 256 (pack n l)
+unfolding pack
+pack-below zero l h = tt
+pack-below (suc n) l h = (
+  lt-of-lt-of-le (num-lt (take 8 l) (below-take 2 8 l h)) (pow-mono {j = 8} (rw length-take (omega arith))),
+  pack-below n (drop 8 l) (below-drop 2 8 l h),
+)
 
 -- a list of bits packed and unpacked again
 pub unpack-pack : (n : ℕ) (l : List ℕ) → Below 2 l → length l ≡ 8 * n → unpack (pack n l) ≡ l

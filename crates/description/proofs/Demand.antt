@@ -145,7 +145,7 @@ pub record Demanded (w out : List ℕ) (number : ℕ) (after : List ℕ) : Type 
   pub leaves : (number ≡ 0 → ⊥) → after ≡ out
 
 module _ (w out : List ℕ) where
-  accepted-outcome : readRefusal w out ≡ 0 → (reading w out .answer .number ≡ 0) × (reading w out .memory ≡ front (sheetOf (listsIn (unpack w))) out)
+  pub accepted-outcome : readRefusal w out ≡ 0 → (reading w out .answer .number ≡ 0) × (reading w out .memory ≡ front (sheetOf (listsIn (unpack w))) out)
   unfolding reading surveyed
   accepted-outcome z =
       let e : reading w out ≡ record { answer = surveyed (unpack w); memory = front (sheetOf (listsIn (unpack w))) out } =
@@ -162,7 +162,7 @@ module _ (w out : List ℕ) where
       (ap (λ o. o .answer .number) e, ap (λ o. o .memory) e)
 
   -- the number is 0 exactly where nothing is refused
-  number-zero : reading w out .answer .number ≡ 0 → readRefusal w out ≡ 0
+  pub number-zero : reading w out .answer .number ≡ 0 → readRefusal w out ≡ 0
   number-zero e = elim (ℕ-discrete (readRefusal w out) 0) [ yes z ↦ z | no h ↦ absurd (h (sym (refused-outcome h .0) ∙ e)) ]
 
 pub demanded-number : (w out : List ℕ) (r : ℕ) (after : List ℕ) → Below 256 w → length w ≡ 96 → 128 ≤ length out → Is (numberOf (reading w out)) r after

@@ -9,3 +9,7 @@ pub mod Sealed
 pub mod Demand
 pub mod Bounds
 pub mod Places
+pub mod Form1
+pub mod Restated
+pub mod DemandWrite
+pub mod RoundTrip

@@ -1,3 +1,5 @@
 pub mod Agree
 pub mod Demand
 pub mod PayloadBack
+pub mod DemandWrite
+pub mod RoundTrip

@@ -12,7 +12,7 @@ use borrow.Author.Tests.{eq-eqb, ne-eqb, eqb-true, not-false}
 use Rattle.ground.specs.Outcome.{Outcome, Told, Is}
 use Rattle.ground.specs.Choice.{refuse, firstOf}
 use Rattle.ground.proofs.Outcome.{gave}
-use Rattle.ground.proofs.Choice.{choose-true, choose-false, either-false, AllClear, all-clear, first-drop, first-clear, first-found}
+use Rattle.ground.proofs.Choice.{choose-true, choose-false, either-false, AllClear, all-clear, first-drop, first-found}
 use Rattle.bits.specs.Lists.{unpack}
 use Rattle.bits.specs.Places.{fieldAt, fieldsAt}
 use Rattle.description.specs.Rows.{total, cuts}
@@ -23,16 +23,18 @@ use Rattle.description.specs.Sheet.{sheetEnd}
 use Rattle.description.specs.Tests.{versionFault, listsFault, anySet, widthFault, tapFault, idFault}
 use Rattle.description.specs.Form1.{pStated, sStated, dStated, headerFault, sheetLists, listsStated, topFault, countFault, sheetFaults, checked, writeRefusal, wordOf, writing}
 use Rattle.description.proofs.Tests.{lists-clear}
+use Rattle.description.proofs.Restated.{right-header}
+use Rattle.description.proofs.DemandWrite.{length-right}
 use Rattle.signalling.specs.Filled.{Stated}
 use Rattle.signalling.proofs.Searches.{judged}
-use Rattle.signalling.proofs.Stated.{header-length, tops-are, version-said, judge-said, pipes-are}
+use Rattle.signalling.proofs.Stated.{tops-are, version-said, judge-said, pipes-are}
 use Rattle.signalling.proofs.Surveys.{refusedBy, lists-found}
 use Rattle.signalling.proofs.Readings.{counted}
 
 -- ---- the tests after the header's, in a sheet whose header is right
 module _ (sh : List ℕ) (right : headerFault sh ≡ false) (p s d : ℕ) (ep : p ≡ pStated sh) (es : s ≡ sStated sh) (ed : d ≡ dStated sh) where
   pub long-enough : length sh ≡ sheetEnd 12 p s d
-  long-enough = header-length sh right ∙ sym (ap₂ (λ (x y : ℕ). sheetEnd 12 x y d) ep es ∙ ap (sheetEnd 12 (pStated sh) (sStated sh)) ed)
+  long-enough = right-header sh right .whole ∙ sym (ap₂ (λ (x y : ℕ). sheetEnd 12 x y d) ep es ∙ ap (sheetEnd 12 (pStated sh) (sStated sh)) ed)
 
   pub lists≡ : sheetLists p s d (unpack sh) ≡ listsStated sh
   unfolding listsStated
@@ -178,12 +180,8 @@ module _ (sh word : List ℕ) where
       refused 1 (first-found (refuse 1 (not (eqb (length word) 96))) (sheetFaults sh) (ap not (ne-eqb (length word) 96 h))) (λ z. omega arith)
 
   module _ (n : length word ≡ 96) where
-    pub past-length : writeRefusal sh word ≡ firstOf (sheetFaults sh)
-    unfolding writeRefusal
-    past-length = first-clear (refuse 1 (not (eqb (length word) 96))) (sheetFaults sh) (ap not (eq-eqb (length word) 96 n))
-
     pub denied : (m : ℕ) → refusedBy m ≡ checked sh → Is (writing sh word) (refusedBy m) word
-    denied m e = let h = no-sheet sh m e in refused m (past-length ∙ sym (h .1)) (λ z. h .0 (sym (h .1) ∙ z))
+    denied m e = let h = no-sheet sh m e in refused m (length-right sh word n ∙ sym (h .1)) (λ z. h .0 (sym (h .1) ∙ z))
 
     pub stated : (p s d : ℕ) → counted p s d ≡ checked sh → Stated sh p s d word
     unfolding sheetFaults
@@ -203,5 +201,5 @@ module _ (sh word : List ℕ) where
         let f = said sh p s d e in
         let a = all-clear (sheetFaults sh) tt (f .clear) in
         gave
-        (choose-true _ _ (eq-eqb (writeRefusal sh word) 0 (past-length ∙ f .clear))
+        (choose-true _ _ (eq-eqb (writeRefusal sh word) 0 (length-right sh word n ∙ f .clear))
         ∙ ap (λ (m : List ℕ). record { answer = record { number = 0; values = 1 ∷ [] }; memory = m }) (sym (g ∙ ap wordOf (lists≡ sh (a .0) p s d (f .pipes) (f .streams) (f .sections)))))

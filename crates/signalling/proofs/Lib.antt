@@ -14,3 +14,5 @@ pub mod Headers
 pub mod Stated
 pub mod Rasters
 pub mod Judged
+pub mod DemandWrite
+pub mod RoundTrip

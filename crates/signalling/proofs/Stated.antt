@@ -6,36 +6,23 @@ use mathlib.Core.Bool.{Bool, true, false, not}
 use mathlib.Core.List.{List, [], _∷_, map}
 use native.Mathlib.Nat.{add-zero}
 use native.Mathlib.Omega.{arith}
-use lib.Dec.{eqb, ltb, lit<}
+use lib.Dec.{eqb, lit<}
 use lib.ListN.{length, getD, drop}
 use lib.Seq.{getD-drop}
-use borrow.Author.Tests.{eq-eqb, ne-eqb, eqb-true, not-false, ltb-false}
-use Rattle.ground.specs.Choice.{either, firstOf}
-use Rattle.ground.proofs.Choice.{skip, hit, either-false, choose-true, choose-false, AllClear, first-drop}
+use borrow.Author.Tests.{eq-eqb, ne-eqb}
+use Rattle.ground.proofs.Choice.{skip, hit}
 use Rattle.bits.specs.Lists.{unpack}
 use Rattle.bits.specs.Places.{fieldAt, fieldsAt}
 use Rattle.description.specs.Rows.{width, total, cut, cuts}
 use Rattle.description.specs.Fields.{table15, table16, table16b, table18, table19, sigPipeVer, numPipes, stsId, numTaps}
 use Rattle.description.specs.Description.{ownStreams, ownSections, tailOwns, streamCount, sectionCount}
 use Rattle.description.specs.Rules.{size}
-use Rattle.description.specs.Sheet.{pipesFrom, sectionsFrom, streamsFrom, sheetEnd}
-use Rattle.description.specs.Tests.{versionFault, listsFault, anySet, widthFault, tapFault, idFault}
-use Rattle.description.specs.Form1.{pStated, sStated, dStated, twoAt, headerFault, bare, sheetSections, sheetLists, listsStated, topFault, countFault, sheetFaults}
+use Rattle.description.specs.Sheet.{sectionsFrom, streamsFrom, sheetEnd}
+use Rattle.description.specs.Tests.{widthFault, tapFault, idFault}
+use Rattle.description.specs.Form1.{bare, sheetSections, sheetLists, countFault}
 use Rattle.description.proofs.Rows.{offset}
 use Rattle.description.proofs.Places.{row-field, fields-rows}
 use Rattle.signalling.proofs.Searches.{judged}
-
--- a right header gives the length
-pub header-length : (sh : List ℕ) → headerFault sh ≡ false → length sh ≡ sheetEnd 12 (pStated sh) (sStated sh) (dStated sh)
-unfolding headerFault
-header-length sh e =
-    let a1 = either-false (ltb (length sh) 21) _ e in
-    let a2 = either-false (not (eqb (getD sh 3 0) 0)) _ (a1 .1) in
-    let a3 = either-false (not (eqb (twoAt sh 4) (pipesFrom 12))) _ (a2 .1) in
-    let a4 = either-false (not (eqb (twoAt sh 6) (streamsFrom 12 (pStated sh)))) _ (a3 .1) in
-    let a5 = either-false (not (eqb (twoAt sh 8) (sectionsFrom 12 (pStated sh) (sStated sh)))) _ (a4 .1) in
-    let a6 = either-false (not (eqb (twoAt sh 10) (sheetEnd 12 (pStated sh) (sStated sh) (dStated sh)))) _ (a5 .1) in
-    eqb-true (length sh) (sheetEnd 12 (pStated sh) (sStated sh) (dStated sh)) (not-false (eqb (length sh) (sheetEnd 12 (pStated sh) (sStated sh) (dStated sh))) (a6 .1))
 
 module _ (sh : List ℕ) (p s d : ℕ) (n : length sh ≡ sheetEnd 12 p s d) where
   b : List ℕ

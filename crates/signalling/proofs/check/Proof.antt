@@ -3,7 +3,7 @@ use mathlib.Core.Path.{_≡_, sym, _∙_}
 use mathlib.Core.Bool.{Bool, true, false}
 use native.Mathlib.Omega.{arith}
 use Rattle.description.specs.Form1.{headerFault}
-use Rattle.signalling.proofs.Stated.{header-length}
+use Rattle.description.proofs.Restated.{right-header}
 use Rattle.signalling.proofs.Judged.{header-faulty, faulty, passed-header, sound}
 use borrow.Author.Needs.{needs}
 use Rattle.signalling.proofs.check.Statement.{statement}
@@ -27,21 +27,21 @@ byte-of-requires : tie.Need-byte-of-requires
 byte-of-requires c κs =
     let sh = c .before .before .before .args .sheet .now in
     let right : headerFault sh ≡ false = sym (c .before .header-wrong .ensures) ∙ c .if1 .left in
-    omega (arith, header-length sh right)
+    omega (arith, right-header sh right .whole)
 
 -- src/lib.rt:96:9
 byte-of-requires-2 : tie.Need-byte-of-requires-2
 byte-of-requires-2 c κs =
     let sh = c .before .before .before .before .args .sheet .now in
     let right : headerFault sh ≡ false = sym (c .before .before .header-wrong .ensures) ∙ c .before .if1 .left in
-    omega (arith, header-length sh right)
+    omega (arith, right-header sh right .whole)
 
 -- src/lib.rt:97:9
 byte-of-requires-3 : tie.Need-byte-of-requires-3
 byte-of-requires-3 c κs =
     let sh = c .before .before .before .before .before .args .sheet .now in
     let right : headerFault sh ≡ false = sym (c .before .before .before .header-wrong .ensures) ∙ c .before .before .if1 .left in
-    omega (arith, header-length sh right)
+    omega (arith, right-header sh right .whole)
 
 -- src/lib.rt:98:9
 judge-requires : tie.Need-judge-requires

@@ -1,0 +1,136 @@
+-- The writer over the definitions: a sheet is accepted exactly when it is the sheet of some description that keeps the rules; there is then only one, and the 96 bytes are its layout.
+-- Assumes nothing.
+use Prim.Native.Nat.{ℕ}
+use mathlib.Core.Path.{_≡_, refl, sym, ap, _∙_, subst}
+use mathlib.Core.Bool.{not}
+use mathlib.Core.List.{List, [], _∷_}
+use mathlib.Core.Logic.{_↔_}
+use native.Mathlib.Decide.{ℕ-discrete}
+use lib.Dec.{eqb}
+use lib.ListN.{length}
+use borrow.Author.Tests.{eq-eqb, ne-eqb}
+use Rattle.ground.specs.Outcome.{Told, Is, numberOf}
+use Rattle.ground.proofs.Outcome.{number-is}
+use Rattle.ground.specs.Choice.{refuse, firstOf}
+use Rattle.ground.proofs.Choice.{choose-true, choose-false, first-clear}
+use Rattle.bits.specs.Lists.{Below}
+use Rattle.description.specs.Description.{Description, listsOf, describe}
+use Rattle.description.specs.Rules.{Keeps}
+use Rattle.description.specs.Layout.{layout}
+use Rattle.description.specs.Sheet.{sheetOf, sheet}
+use Rattle.description.specs.Form1.{listsStated, sheetFaults, writeRefusal, wordOf, writing}
+use Rattle.description.proofs.Deal.{lists-describe, describe-lists, counted, sized}
+use Rattle.description.proofs.Sound.{Sound}
+use Rattle.description.proofs.Keeps.{Clean, sized-keeps, sound-keeps, clean-keeps, keeps-clean}
+use Rattle.description.proofs.Form1.{lists-sheet, accepted-sheet}
+use Rattle.description.proofs.Restated.{sound-stated, counted-stated, clean-stated, sheet-stated}
+
+-- what a sheet describes
+unfoldable pub stated : List ℕ → Description
+stated sh = describe (listsStated sh)
+
+-- ---- the sheet of a description that keeps the rules
+module _ (d : Description) (k : Keeps d) where
+  pub lists-of-sheet : listsStated (sheet d) ≡ listsOf d
+  unfolding sheet
+  lists-of-sheet = lists-sheet (listsOf d) (sound-keeps d k)
+
+  pub stated-sheet : stated (sheet d) ≡ d
+  unfolding stated
+  stated-sheet = ap describe lists-of-sheet ∙ describe-lists d (sized-keeps d k)
+
+  pub clear-sheet : firstOf (sheetFaults (sheet d)) ≡ 0
+  unfolding sheet
+  clear-sheet = accepted-sheet (listsOf d) (sound-keeps d k) (counted d (sized-keeps d k)) (clean-keeps d k)
+
+  pub word-of-sheet : wordOf (listsStated (sheet d)) ≡ layout d
+  unfolding wordOf layout
+  word-of-sheet = ap wordOf lists-of-sheet
+
+-- ---- a sheet in which nothing is found
+module _ (sh : List ℕ) (h : firstOf (sheetFaults sh) ≡ 0) where
+  lists-stated : listsOf (stated sh) ≡ listsStated sh
+  unfolding stated
+  lists-stated = lists-describe (listsStated sh) (counted-stated sh h)
+
+  pub keeps-stated : Keeps (stated sh)
+  unfolding stated
+  keeps-stated =
+      keeps-clean (stated sh) (sized (listsStated sh) (counted-stated sh h))
+      (subst Sound (sym lists-stated) (sound-stated sh)) (subst Clean (sym lists-stated) (clean-stated sh h))
+
+  pub sheet-of-stated : Below 256 sh → sheet (stated sh) ≡ sh
+  unfolding sheet
+  sheet-of-stated bytes = ap sheetOf lists-stated ∙ sheet-stated sh h bytes
+
+-- ---- the length
+pub length-right : (sh word : List ℕ) → length word ≡ 96 → writeRefusal sh word ≡ firstOf (sheetFaults sh)
+unfolding writeRefusal
+length-right sh word n = first-clear (refuse 1 (not (eqb (length word) 96))) (sheetFaults sh) (ap not (eq-eqb (length word) 96 n))
+
+-- ---- the writer
+module _ (sh word : List ℕ) (bytes : Below 256 sh) (n : length word ≡ 96) where
+  -- accepted exactly when it is the sheet of some description that keeps the rules
+  pub written-iff : (writeRefusal sh word ≡ 0) ↔ ((d : Description) × Keeps d × (sheet d ≡ sh))
+  written-iff = (there, back)
+    where
+      there : writeRefusal sh word ≡ 0 → ((d : Description) × Keeps d × (sheet d ≡ sh))
+      there r =
+          let h : firstOf (sheetFaults sh) ≡ 0 = sym (length-right sh word n) ∙ r in
+          (stated sh, keeps-stated sh h, sheet-of-stated sh h bytes)
+
+      back : ((d : Description) × Keeps d × (sheet d ≡ sh)) → writeRefusal sh word ≡ 0
+      back q = length-right sh word n ∙ subst (λ (x : List ℕ). firstOf (sheetFaults x) ≡ 0) (q .2) (clear-sheet (q .0) (q .1))
+
+-- that description is the one stated, so there is only one
+pub the-stated : (sh : List ℕ) (d : Description) → Keeps d → sheet d ≡ sh → stated sh ≡ d
+the-stated sh d k e = subst (λ (x : List ℕ). stated x ≡ d) e (stated-sheet d k)
+
+pub one-stated : (sh : List ℕ) (d e : Description) → Keeps d → Keeps e → sheet d ≡ sh → sheet e ≡ sh → d ≡ e
+one-stated sh d e k j p q = sym (the-stated sh d k p) ∙ the-stated sh e j q
+
+-- and the word of the sheet's lists is its layout
+pub the-word : (sh : List ℕ) (d : Description) → Keeps d → sheet d ≡ sh → wordOf (listsStated sh) ≡ layout d
+the-word sh d k e = subst (λ (x : List ℕ). wordOf (listsStated x) ≡ layout d) e (word-of-sheet d k)
+
+-- ---- what is asked of a writer's number and of the word afterwards, for the sheet sh and the 96 bytes word
+pub record Wanted (sh word : List ℕ) (number : ℕ) (after : List ℕ) : Type 0 where
+  -- accepted exactly when the sheet is that of some description that keeps the rules
+  pub accepts : (number ≡ 0) ↔ ((d : Description) × Keeps d × (sheet d ≡ sh))
+  -- there is then only one
+  pub only : (d e : Description) → Keeps d → Keeps e → sheet d ≡ sh → sheet e ≡ sh → d ≡ e
+  -- and the 96 bytes are its layout
+  pub lays : (d : Description) → Keeps d → sheet d ≡ sh → after ≡ layout d
+  -- a refused sheet leaves the word as it was
+  pub leaves : (number ≡ 0 → ⊥) → after ≡ word
+
+module _ (sh word : List ℕ) where
+  pub accepted-writing : writeRefusal sh word ≡ 0 → writing sh word ≡ record { answer = record { number = 0; values = 1 ∷ [] }; memory = wordOf (listsStated sh) }
+  unfolding writing
+  accepted-writing z = choose-true _ _ (eq-eqb (writeRefusal sh word) 0 z)
+
+  refused-writing : (writeRefusal sh word ≡ 0 → ⊥) → writing sh word ≡ record { answer = record { number = writeRefusal sh word; values = [] }; memory = word }
+  unfolding writing
+  refused-writing h = choose-false _ _ (ne-eqb (writeRefusal sh word) 0 h)
+
+  -- the number is 0 exactly where nothing is refused
+  pub writing-zero : writing sh word .answer .number ≡ 0 → writeRefusal sh word ≡ 0
+  writing-zero e =
+      elim (ℕ-discrete (writeRefusal sh word) 0) [ yes z ↦ z | no h ↦ absurd (h (sym (ap (λ o. o .answer .number) (refused-writing h)) ∙ e)) ]
+
+pub wanted-number : (sh word : List ℕ) (r : ℕ) (after : List ℕ) → Below 256 sh → length word ≡ 96 → Is (numberOf (writing sh word)) r after → Wanted sh word r after
+wanted-number sh word r after bytes n p = record {
+  accepts = (λ e. iff .0 (writing-zero sh word (sym (p .answer) ∙ e)), λ q. zero (iff .1 q));
+  only = one-stated sh;
+  lays = λ d k e. p .memory ∙ ap (λ o. o .memory) (accepted-writing sh word (iff .1 (d, k, e))) ∙ the-word sh d k e;
+  leaves = λ h. p .memory ∙ ap (λ o. o .memory) (refused-writing sh word (λ z. h (zero z)));
+}
+  where
+    iff : (writeRefusal sh word ≡ 0) ↔ ((d : Description) × Keeps d × (sheet d ≡ sh))
+    iff = written-iff sh word bytes n
+
+    zero : writeRefusal sh word ≡ 0 → r ≡ 0
+    zero z = p .answer ∙ ap (λ o. o .answer .number) (accepted-writing sh word z)
+
+pub wanted : (sh word : List ℕ) (t : Told) (after : List ℕ) → Below 256 sh → length word ≡ 96 → Is (writing sh word) t after → Wanted sh word (t .number) after
+wanted sh word t after bytes n p = wanted-number sh word (t .number) after bytes n (number-is p refl)
