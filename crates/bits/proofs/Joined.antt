@@ -3,7 +3,7 @@
 use Prim.Native.Nat.{ℕ, zero, suc, _+_, _-_, _*_, _/_, _%_, _^_, _≤_, _<_}
 use mathlib.Core.Path.{_≡_, refl, sym, ap, ap₂, _∙_, subst}
 use mathlib.Core.List.{List, [], _∷_, _++_}
-use native.Mathlib.Nat.{zero-div, zero-add}
+use native.Mathlib.Nat.{zero-div, zero-add, add-zero}
 use native.Mathlib.Decide.{decLt}
 use native.Mathlib.Omega.{arith}
 use lib.ListN.{length, getD, take, drop, length-drop, List·getD-append, List·getD-eq-default}
@@ -15,7 +15,7 @@ use Rattle.bits.specs.Places.{bitAt, number, packed, fieldAt}
 use Rattle.bits.proofs.Lists.{bits-length, num-snoc, unpack-length, unpack-below, pack-length, unpack-pack, pack-unpack}
 use Rattle.bits.proofs.Places.{number-cong, field-is, packed-ext, packed-cong}
 
--- the bit i of the n low bits of a number
+-- bit i of the n low bits of v
 pub bits-at : (n v i : ℕ) → i < n → getD (bits n v) i 0 ≡ v / 2 ^ (n - 1 - i) % 2
 unfolding bits
 bits-at zero v i h = absurd (omega arith)
@@ -70,7 +70,12 @@ number-num w at n h =
 pub field-num : (w : List ℕ) (at n : ℕ) → n ≤ 32 → at + n ≤ 8 * length w → fieldAt w at n ≡ num (take n (drop at (unpack w)))
 field-num w at n k h = field-is w at n k ∙ number-num w at n h
 
-pack-at : (n : ℕ) (l : List ℕ) (k : ℕ) → k < n → getD (pack n l) k 0 ≡ num (take 8 (drop (8 * k) l))
+-- a field of one bit is that bit
+pub field-bit : (w : List ℕ) (i : ℕ) → fieldAt w i 1 ≡ getD (unpack w) i 0
+unfolding number
+field-bit w i = field-is w i 1 (omega arith) ∙ zero-add (bitAt w (i + 0)) ∙ ap (bitAt w) (add-zero i) ∙ bit-unpack w i
+
+pub pack-at : (n : ℕ) (l : List ℕ) (k : ℕ) → k < n → getD (pack n l) k 0 ≡ num (take 8 (drop (8 * k) l))
 unfolding pack
 pack-at zero l k h = absurd (omega arith)
 pack-at (suc n) l zero h = refl
@@ -104,3 +109,7 @@ bit-packed f b n i h =
     bit-unpack (packed f n) i ∙ ap (λ (w : List ℕ). getD (unpack w) i 0) e
     ∙ ap (λ (x : List ℕ). getD x i 0) (unpack-pack n l (tab-below f b 0 (8 * n)) (length-tab f 0 (8 * n)))
     ∙ getD-tab f 0 0 (8 * n) i h ∙ ap f (zero-add i)
+
+-- a field that stands i bits behind a place
+pub field-from : (w : List ℕ) (at i n : ℕ) → n ≤ 32 → at + i + n ≤ 8 * length w → fieldAt w (at + i) n ≡ num (take n (drop i (drop at (unpack w))))
+field-from w at i n k h = field-num w (at + i) n k h ∙ ap (λ (l : List ℕ). num (take n l)) (sym (drop-drop i at (unpack w)))

@@ -2,5 +2,6 @@ pub mod Below
 pub mod Lists
 pub mod Places
 pub mod Joined
+pub mod Numbers
 pub mod Pushes
 pub mod Agree

@@ -7,7 +7,7 @@ use native.Mathlib.Nat.{pow-suc, mul-assoc, mul-comm, add-mul, mul-add-mod-self-
 use native.Mathlib.Numerals.{one-add}
 use native.Mathlib.Omega.{arith}
 use lib.ListN.{length, getD, take, drop, length-append, length-take, length-drop, take-append-drop}
-use lib.Seq.{take-at, drop-at}
+use lib.Seq.{take-at, drop-at, take-append-le, drop-append-le}
 use lib.Pow.{pow-pos, high, pow-add, mod-pow-add}
 use lib.Arith.{digits-lt}
 use Rattle.bits.specs.Lists.{bits, num, unpack, pack, Below}
@@ -110,3 +110,16 @@ pub unpack-inj : (v w : List ℕ) → Below 256 v → Below 256 w → unpack v �
 unpack-inj v w hv hw e =
     let l : length v ≡ length w = omega (arith, unpack-length v, unpack-length w, ap length e) in
     sym (pack-unpack v hv) ∙ ap₂ pack l e ∙ pack-unpack w hw
+
+-- n bytes are packed from the first 8 * n bits
+pub pack-front : (n : ℕ) (l m : List ℕ) → 8 * n ≤ length l → pack n (l ++ m) ≡ pack n l
+unfolding pack
+pack-front zero l m h = refl
+pack-front (suc n) l m h =
+    ap₂ (λ (x : ℕ) (y : List ℕ). x ∷ y)
+    (ap num (take-append-le 8 l m (omega arith)))
+    (ap (pack n) (drop-append-le 8 l m (omega arith)) ∙ pack-front n (drop 8 l) m (rw length-drop (omega arith)))
+
+pub pack-take : (n m : ℕ) (l : List ℕ) → 8 * n ≤ m → m ≤ length l → pack n (take m l) ≡ pack n l
+pack-take n m l h k =
+    sym (pack-front n (take m l) (drop m l) (rw length-take (omega arith))) ∙ ap (pack n) (take-append-drop m l)

@@ -3,17 +3,17 @@
 use Prim.Native.Nat.{ℕ, zero, suc, _+_, _-_, _*_, _/_, _%_, _^_, _≤_, _<_}
 use mathlib.Core.Path.{_≡_, refl, sym, ap, ap₂, _∙_, subst}
 use mathlib.Core.List.{List}
-use native.Mathlib.Nat.{pow-suc}
+use native.Mathlib.Nat.{pow-suc, zero-add, add-assoc, mul-add}
 use native.Mathlib.Numerals.{add-one}
 use native.Mathlib.Omega.{arith}
-use lib.ListN.{length, getD}
+use lib.ListN.{length, getD, take, drop}
 use lib.Pow.{pow-pos}
 use borrow.Author.Tests.{le-ltb, lt-ltb}
 use Rattle.ground.specs.Table.{tab}
 use Rattle.ground.specs.Choice.{choose}
 use Rattle.ground.proofs.Choice.{choose-false}
-use Rattle.ground.proofs.Table.{length-tab, getD-tab, tab-ext, tab-cong}
-use Rattle.bits.specs.Places.{bitAt, number, packed, fieldAt}
+use Rattle.ground.proofs.Table.{length-tab, getD-tab, tab-ext, tab-cong, tab-shift, drop-tab, take-tab}
+use Rattle.bits.specs.Places.{bitAt, number, packed, fieldAt, fieldsAt}
 
 pub bit-lt : (w : List ℕ) (i : ℕ) → bitAt w i < 2
 unfolding bitAt
@@ -56,3 +56,24 @@ field-is w at n h = choose-false 0 (number (bitAt w) at n) (le-ltb 32 n h)
 
 pub field-lt : (w : List ℕ) (at n : ℕ) → n ≤ 32 → fieldAt w at n < 2 ^ n
 field-lt w at n h = subst (λ (x : ℕ). x < 2 ^ n) (sym (field-is w at n h)) (number-lt (bitAt w) (bit-lt w) at n)
+
+-- ---- fields that stand step bits apart
+pub fields-length : (w : List ℕ) (at step k n : ℕ) → length (fieldsAt w at step k n) ≡ n
+unfolding fieldsAt
+fields-length w at step k n = length-tab (λ i. fieldAt w (at + step * i) k) 0 n
+
+pub fields-get : (w : List ℕ) (at step k n i : ℕ) → i < n → getD (fieldsAt w at step k n) i 0 ≡ fieldAt w (at + step * i) k
+unfolding fieldsAt
+fields-get w at step k n i h =
+    getD-tab (λ j. fieldAt w (at + step * j) k) 0 0 n i h ∙ ap (λ (j : ℕ). fieldAt w (at + step * j) k) (zero-add i)
+
+-- m of them from the field j on
+pub fields-part : (w : List ℕ) (at step k n j m : ℕ) → j + m ≤ n → take m (drop j (fieldsAt w at step k n)) ≡ fieldsAt w (at + step * j) step k m
+unfolding fieldsAt
+fields-part w at step k n j m h =
+    let f : ℕ → ℕ = λ i. fieldAt w (at + step * i) k in
+    ap (take m) (drop-tab f 0 n j (omega arith) ∙ ap (λ (i : ℕ). tab f i (n - j)) (zero-add j))
+    ∙ take-tab f j (n - j) m (omega arith)
+    ∙ sym (tab-shift f j m)
+    ∙ tab-cong (λ i. f (j + i)) (λ i. fieldAt w (at + step * j + step * i) k) 0 m
+    (λ i l. ap (λ (x : ℕ). fieldAt w x k) (ap (λ (x : ℕ). at + x) (mul-add step j (0 + i)) ∙ sym (add-assoc at (step * j) (step * (0 + i)))))

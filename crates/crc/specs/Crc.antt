@@ -25,6 +25,6 @@ crcOf n g l = 2 ^ n - 1 - clocks (2 ^ (n - 1)) g (2 ^ n - 1) l
 unfoldable pub crc8Of : List ℕ → ℕ → ℕ → ℕ
 crc8Of w at n = crcOf 8 0x2F (tab (bitAt w) at n)
 
--- x^12 + x^11 + x^3 + x^2 + x + 1 (clause 4.10)
+-- x^12 + x^11 + x^3 + x^2 + x + 1 (clause 4.10.1.3)
 unfoldable pub crc12Of : List ℕ → ℕ → ℕ → ℕ
 crc12Of w at n = crcOf 12 0x80F (tab (bitAt w) at n)

@@ -5,19 +5,22 @@ use mathlib.Core.Path.{_≡_, refl, sym, ap, ap₂, _∙_, subst}
 use mathlib.Core.Bool.{Bool, true, false, not}
 use mathlib.Core.List.{List, [], _∷_}
 use mathlib.Core.Logic.{_↔_}
+use native.Mathlib.Decide.{ℕ-discrete}
 use native.Mathlib.Omega.{arith}
 use lib.Dec.{eqb, ltb}
 use lib.ListN.{length}
-use borrow.Author.Tests.{eqb-true, eq-eqb, ltb-false, le-ltb, not-false}
+use borrow.Author.Tests.{eqb-true, eq-eqb, ne-eqb, ltb-false, le-ltb, not-false}
+use Rattle.ground.specs.Outcome.{Told, Is, numberOf}
+use Rattle.ground.proofs.Outcome.{number-is}
 use Rattle.ground.specs.Choice.{either, refuse, firstOf}
-use Rattle.ground.proofs.Choice.{first-past, first-clear, either-false, neither}
+use Rattle.ground.proofs.Choice.{choose-true, choose-false, first-past, first-clear, either-false, neither}
 use Rattle.bits.specs.Lists.{Below, unpack, pack}
 use Rattle.bits.proofs.Lists.{unpack-length, unpack-below, unpack-pack, pack-unpack}
 use Rattle.description.specs.Description.{Description, listsOf, describe}
 use Rattle.description.specs.Rules.{Keeps}
 use Rattle.description.specs.Layout.{body, padded, sealed, layout}
 use Rattle.description.specs.Sheet.{sheetOf, sheet}
-use Rattle.description.specs.Word.{listsIn, wordFaults, readRefusal}
+use Rattle.description.specs.Word.{pIn, sIn, dIn, listsIn, wordFaults, readRefusal, front, surveyed, reading}
 use Rattle.description.proofs.Deal.{Counted, Sized, lists-describe, describe-lists, counted, sized}
 use Rattle.description.proofs.Sound.{Sound}
 use Rattle.description.proofs.Keeps.{Clean, sized-keeps, sound-keeps, clean-keeps, keeps-clean}
@@ -127,3 +130,54 @@ only-one w d e k j p q = sym (the-one w d k p) ∙ the-one w e j q
 pub the-sheet : (w : List ℕ) (d : Description) → Keeps d → layout d ≡ w → sheetOf (listsIn (unpack w)) ≡ sheet d
 unfolding sheet
 the-sheet w d k e = subst (λ (x : List ℕ). sheetOf (listsIn (unpack x)) ≡ sheetOf (listsOf d)) e (ap sheetOf (lists-layout d k))
+
+-- ---- demand 3 of an answer and of what was left in the room
+
+-- what demand 3 asks of a reader's number and of its room afterwards, for the bytes w and the room out
+pub record Demanded (w out : List ℕ) (number : ℕ) (after : List ℕ) : Type 0 where
+  -- accepted exactly when some description that keeps the rules is laid out as those 96 bytes
+  pub accepts : (number ≡ 0) ↔ ((d : Description) × Keeps d × (layout d ≡ w))
+  -- there is then only one
+  pub only : (d e : Description) → Keeps d → Keeps e → layout d ≡ w → layout e ≡ w → d ≡ e
+  -- and the sheet handed out is its sheet, with the bytes past it as before
+  pub hands : (d : Description) → Keeps d → layout d ≡ w → after ≡ front (sheet d) out
+  -- a refused word leaves the room as it was
+  pub leaves : (number ≡ 0 → ⊥) → after ≡ out
+
+module _ (w out : List ℕ) where
+  accepted-outcome : readRefusal w out ≡ 0 → (reading w out .answer .number ≡ 0) × (reading w out .memory ≡ front (sheetOf (listsIn (unpack w))) out)
+  unfolding reading surveyed
+  accepted-outcome z =
+      let e : reading w out ≡ record { answer = surveyed (unpack w); memory = front (sheetOf (listsIn (unpack w))) out } =
+      choose-true _ _ (eq-eqb (readRefusal w out) 0 z) in
+      let f : surveyed (unpack w) ≡ record { number = 0; values = pIn (unpack w) ∷ sIn (unpack w) ∷ dIn (unpack w) ∷ [] } =
+      choose-true _ _ (eq-eqb (firstOf (wordFaults (unpack w))) 0 (lengths-known w out z .2)) in
+      (ap (λ o. o .answer .number) e ∙ ap (λ t. t .number) f, ap (λ o. o .memory) e)
+
+  refused-outcome : (readRefusal w out ≡ 0 → ⊥) → (reading w out .answer .number ≡ readRefusal w out) × (reading w out .memory ≡ out)
+  unfolding reading
+  refused-outcome h =
+      let e : reading w out ≡ record { answer = record { number = readRefusal w out; values = [] }; memory = out } =
+      choose-false _ _ (ne-eqb (readRefusal w out) 0 h) in
+      (ap (λ o. o .answer .number) e, ap (λ o. o .memory) e)
+
+  -- the number is 0 exactly where nothing is refused
+  number-zero : reading w out .answer .number ≡ 0 → readRefusal w out ≡ 0
+  number-zero e = elim (ℕ-discrete (readRefusal w out) 0) [ yes z ↦ z | no h ↦ absurd (h (sym (refused-outcome h .0) ∙ e)) ]
+
+pub demanded-number : (w out : List ℕ) (r : ℕ) (after : List ℕ) → Below 256 w → length w ≡ 96 → 128 ≤ length out → Is (numberOf (reading w out)) r after
+    → Demanded w out r after
+demanded-number w out r after bytes n room p = record {
+  accepts = (
+    λ e. accepted-iff w out bytes n room .0 (number-zero w out (sym (p .answer) ∙ e)),
+    λ q. p .answer ∙ accepted-outcome w out (accepted-iff w out bytes n room .1 q) .0,
+  );
+  only = only-one w;
+  hands = λ d k e.
+      p .memory ∙ accepted-outcome w out (accepted-iff w out bytes n room .1 (d, k, e)) .1 ∙ ap (λ (l : List ℕ). front l out) (the-sheet w d k e);
+  leaves = λ h. p .memory ∙ refused-outcome w out (λ z. h (p .answer ∙ accepted-outcome w out z .0)) .1;
+}
+
+pub demanded : (w out : List ℕ) (t : Told) (after : List ℕ) → Below 256 w → length w ≡ 96 → 128 ≤ length out → Is (reading w out) t after
+    → Demanded w out (t .number) after
+demanded w out t after bytes n room p = demanded-number w out (t .number) after bytes n room (number-is p refl)

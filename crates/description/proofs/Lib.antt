@@ -8,3 +8,4 @@ pub mod Keeps
 pub mod Sealed
 pub mod Demand
 pub mod Bounds
+pub mod Places

@@ -4,13 +4,13 @@ use Prim.Native.Nat.{ℕ, zero, suc, _+_, _-_, _*_, _^_, _≤_, _<_, min}
 use mathlib.Core.Path.{_≡_, refl, sym, ap, ap₂, _∙_, subst}
 use mathlib.Core.List.{List, [], _∷_, _++_, append-assoc}
 use native.Mathlib.Omega.{arith}
-use native.Mathlib.Nat.{lt-of-lt-of-le, suc-mul, zero-mul}
+use native.Mathlib.Nat.{lt-of-lt-of-le, suc-mul, zero-mul, le-of-eq}
 use lib.ListN.{length, getD, take, drop, length-append, length-take, length-drop, take-append-drop}
 use lib.Seq.{take-at, drop-at, take-add, length-take-le, drop-drop}
 use lib.Pow.{pow-mono}
-use Rattle.bits.specs.Lists.{bits, num, Below, unpack}
+use Rattle.bits.specs.Lists.{bits, num, Below, unpack, pack}
 use Rattle.bits.specs.Places.{fieldAt}
-use Rattle.bits.proofs.Lists.{bits-length, bits-below, num-bits, bits-num, num-lt}
+use Rattle.bits.proofs.Lists.{bits-length, bits-below, num-bits, bits-num, num-lt, pack-take}
 use Rattle.bits.proofs.Below.{below-take, below-drop, below-append}
 use Rattle.bits.proofs.Joined.{field-num}
 use Rattle.description.specs.Rows.{Each, total, width, join, cut, Row, joins, cuts}
@@ -137,3 +137,20 @@ row-at [] vs k r h = absurd (omega arith)
 row-at (w ∷ t) [] k r h = absurd r
 row-at (w ∷ t) (v ∷ vs) zero r h = r .0
 row-at (w ∷ t) (v ∷ vs) (suc k) r h = row-at t vs k (r .1) (omega arith)
+
+-- what is written from row k on
+pub joins-at : (t : List ℕ) (k : ℕ) (rs : List (List ℕ)) → k < length rs → drop (k * width t) (joins t rs) ≡ join t (getD rs k []) ++ joins t (drop (suc k) rs)
+unfolding joins
+joins-at t k [] h = absurd (omega arith)
+joins-at t zero (r ∷ rs) h = rw zero-mul refl
+joins-at t (suc k) (r ∷ rs) h =
+    let m : suc k * width t ≡ width t + k * width t = suc-mul k (width t) ∙ omega arith in
+    rw (m, ← drop-drop (k * width t) (width t) (join t r ++ joins t rs), drop-at (join t r) (joins t rs) (width t) (join-length t r))
+    (joins-at t k rs (omega arith))
+
+-- whole bytes of a row and of rows are those of the bits that they were read of
+pub pack-cut : (t : List ℕ) (n : ℕ) (b : List ℕ) → Below 2 b → 8 * n ≡ width t → width t ≤ length b → pack n (join t (cut t b)) ≡ pack n b
+pack-cut t n b h e f = ap (pack n) (join-cut t b h f) ∙ pack-take n (width t) b (le-of-eq e) f
+
+pub pack-cuts : (t : List ℕ) (n m : ℕ) (b : List ℕ) → Below 2 b → 8 * m ≡ n * width t → n * width t ≤ length b → pack m (joins t (cuts t n b)) ≡ pack m b
+pack-cuts t n m b h e f = ap (pack m) (joins-cuts t n b h f) ∙ pack-take m (n * width t) b (le-of-eq e) f

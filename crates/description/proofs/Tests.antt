@@ -11,7 +11,7 @@ use lib.Dec.{eqb, ltb}
 use lib.ListN.{length, getD, take, drop, replicate, length-map}
 use lib.Seq.{take-at, drop-at}
 use borrow.Author.Tests.{eqb-true, eqb-false, ltb-true, ltb-false, eq-eqb, ne-eqb, lt-ltb, le-ltb, not-true, not-false}
-use Rattle.ground.specs.Choice.{both, either}
+use Rattle.ground.specs.Choice.{both, either, any}
 use Rattle.ground.proofs.Choice.{either-false, neither, both-false, both-first, both-second}
 use Rattle.patterns.specs.Rates.{unitsOf}
 use Rattle.description.specs.Rows.{Each, total}
@@ -44,14 +44,14 @@ clear-lists p s d h = le-ltb 750 (size p s d) h
 
 -- ---- bits that are zero
 pub none-set : (l : List ℕ) → anySet l ≡ false → l ≡ replicate (length l) 0
-unfolding anySet
+unfolding anySet any
 none-set [] e = refl
 none-set (b ∷ l) e =
     let h = either-false (not (eqb b 0)) (anySet l) e in
     ap₂ (λ (x : ℕ) (y : List ℕ). x ∷ y) (eqb-true b 0 (not-false (eqb b 0) (h .0))) (none-set l (h .1))
 
 pub set-none : (n : ℕ) → anySet (replicate n 0) ≡ false
-unfolding anySet
+unfolding anySet any
 set-none zero = refl
 set-none (suc n) = set-none n
 
@@ -80,12 +80,12 @@ right-width f h =
     rest k (no u) = let z : pipeWidth f ≡ 0 = omega arith in rw z (native.Mathlib.Nat.zero-mod (unitsOf (punctPat f)))
 
 pub widths-clear : (fs : List (List ℕ)) → widthFault fs ≡ false → Each Whole fs
-unfolding widthFault
+unfolding widthFault any
 widths-clear [] e = tt
 widths-clear (f ∷ fs) e = let h = either-false (widthWrong f) (widthFault fs) e in (width-right f (h .0), widths-clear fs (h .1))
 
 pub clear-widths : (fs : List (List ℕ)) → Each Whole fs → widthFault fs ≡ false
-unfolding widthFault
+unfolding widthFault any
 clear-widths [] h = refl
 clear-widths (f ∷ fs) h = neither (right-width f (h .0)) (clear-widths fs (h .1))
 
@@ -140,13 +140,13 @@ clear-taps (p ∷ ps) o h = taps-step p ps (o .0) ∙ neither (right-taps p (h .
 
 -- ---- 11
 no-member : (x : ℕ) (l : List ℕ) → member x l ≡ false → (j : ℕ) → j < length l → x ≡ getD l j 0 → ⊥
-unfolding member
+unfolding member any
 no-member x [] e j h q = not-suc-le-zero h
 no-member x (y ∷ l) e zero h q = eqb-false x y (either-false (eqb x y) (member x l) e .0) q
 no-member x (y ∷ l) e (suc j) h q = no-member x l (either-false (eqb x y) (member x l) e .1) j (omega arith) q
 
 member-no : (x : ℕ) (l : List ℕ) → ((j : ℕ) → j < length l → x ≡ getD l j 0 → ⊥) → member x l ≡ false
-unfolding member
+unfolding member any
 member-no x [] h = refl
 member-no x (y ∷ l) h = neither (ne-eqb x y (h 0 (omega arith))) (member-no x l (λ j p. h (suc j) (omega arith)))
 

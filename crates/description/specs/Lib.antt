@@ -6,3 +6,4 @@ pub mod Layout
 pub mod Sheet
 pub mod Tests
 pub mod Word
+pub mod Form1

@@ -5,7 +5,7 @@ use mathlib.Core.Bool.{Bool, true, false, not}
 use mathlib.Core.List.{List, [], _∷_}
 use lib.Dec.{eqb, ltb}
 use lib.ListN.{take, drop}
-use Rattle.ground.specs.Choice.{both, either}
+use Rattle.ground.specs.Choice.{both, either, any}
 use Rattle.patterns.specs.Rates.{unitsOf}
 use Rattle.description.specs.Rows.{total}
 use Rattle.description.specs.Fields.{sigPipeVer, punctPat, pipeWidth}
@@ -21,17 +21,18 @@ unfoldable pub listsFault : ℕ → ℕ → ℕ → Bool
 listsFault p s d = ltb 750 (size p s d)
 
 -- a bit is set
+abbrev pub isSet : ℕ → Bool
+isSet b = not (eqb b 0)
+
 unfoldable pub anySet : List ℕ → Bool
-anySet [] = false
-anySet (b ∷ l) = either (not (eqb b 0)) (anySet l)
+anySet l = any isSet l
 
 -- 9: of some payload pipe in use with a pattern 0 to 27 the width is no multiple
 unfoldable pub widthWrong : List ℕ → Bool
 widthWrong f = both (ltb (punctPat f) 28) (not (eqb (pipeWidth f % unitsOf (punctPat f)) 0))
 
 unfoldable pub widthFault : List (List ℕ) → Bool
-widthFault [] = false
-widthFault (f ∷ fs) = either (widthWrong f) (widthFault fs)
+widthFault fs = any widthWrong fs
 
 -- 10: some payload pipe in use is without 32 taps; ts has Num_Taps_Div2_1 of every section, in order
 abbrev pub tapsOf : ℕ → ℕ
@@ -46,8 +47,7 @@ tapFault (f ∷ fs) ts = either (tapsWrong f (take (ownSections f) ts)) (tapFaul
 
 -- x is one of the ids
 unfoldable pub member : ℕ → List ℕ → Bool
-member x [] = false
-member x (y ∷ l) = either (eqb x y) (member x l)
+member x l = any (eqb x) l
 
 -- 11: an id stands twice
 unfoldable pub idFault : List ℕ → Bool

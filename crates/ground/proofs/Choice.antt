@@ -3,11 +3,13 @@
 use mathlib.Core.Path.{_≡_, refl, sym, ap, _∙_}
 use mathlib.Core.Bool.{Bool, true, false}
 use mathlib.Core.List.{List, [], _∷_}
-use Prim.Native.Nat.{ℕ, zero, suc, _<_}
+use Prim.Native.Nat.{ℕ, zero, suc, _+_, _≤_, _<_}
+use native.Mathlib.Numerals.{add-one}
 use native.Mathlib.Omega.{arith}
 use lib.Dec.{T, ltb, ltb→lt}
-use lib.ListN.{take, drop}
-use Rattle.ground.specs.Choice.{choose, both, either, Fault, firstOf}
+use lib.ListN.{length, getD, take, drop, drop-of-length-le}
+use lib.Seq.{drop-cons}
+use Rattle.ground.specs.Choice.{choose, both, either, any, Fault, firstOf}
 
 pub choose-true : {A : Type 0} {b : Bool} (x y : A) → b ≡ true → choose b x y ≡ x
 choose-true x y e = ap (λ (t : Bool). choose t x y) e
@@ -93,3 +95,26 @@ pub first-drop : (k : ℕ) (l : List Fault) → AllClear (take k l) → firstOf 
 first-drop zero l c = refl
 first-drop (suc k) [] c = refl
 first-drop (suc k) (f ∷ l) c = first-clear f l (c .0) ∙ first-drop k l (c .1)
+
+-- ---- a search: what is asked of the whole is asked of what is left from i on
+module _ {A : Type 0} (t : A → Bool) (l : List A) (z : A) (whole : Bool) (i : ℕ) (left : whole ≡ any t (drop i l)) where
+  step : i < length l → whole ≡ either (t (getD l i z)) (any t (drop (i + 1) l))
+  unfolding any
+  step h = left ∙ ap (any t) (drop-cons l i z h) ∙ ap (λ (k : ℕ). either (t (getD l i z)) (any t (drop k l))) (sym (add-one i))
+
+  pub any-found : i < length l → t (getD l i z) ≡ true → whole ≡ true
+  any-found h e = step h ∙ ap (λ (b : Bool). either b (any t (drop (i + 1) l))) e
+
+  pub any-more : i < length l → t (getD l i z) ≡ false → whole ≡ any t (drop (i + 1) l)
+  any-more h e = step h ∙ ap (λ (b : Bool). either b (any t (drop (i + 1) l))) e
+
+  pub any-done : length l ≤ i → whole ≡ false
+  unfolding any
+  any-done h = left ∙ ap (any t) (drop-of-length-le l h)
+
+-- a chain of tests: one that fails is passed, one that holds answers
+pub skip : {a b r : Bool} → a ≡ false → b ≡ r → either a b ≡ r
+skip {a} {b} {r} e f = ap (λ (t : Bool). either t b) e ∙ f
+
+pub hit : {a : Bool} (b : Bool) → a ≡ true → either a b ≡ true
+hit b e = ap (λ (t : Bool). either t b) e

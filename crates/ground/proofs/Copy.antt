@@ -1,13 +1,13 @@
 -- Laws of a copy from the front: the first i entries are those of the source, the rest is as before. (A copy to another place is `lib.Seq`'s `paste`.)
 -- Assumes nothing.
 use mathlib.Core.Path.{_≡_, refl, sym, ap, ap₂, _∙_}
-use mathlib.Core.List.{List, [], _∷_, _++_, append-nil}
+use mathlib.Core.List.{List, [], _∷_, _++_, append-nil, append-assoc}
 use Prim.Native.Nat.{ℕ, suc, _+_, _≤_, _<_}
-use native.Mathlib.Nat.{zero-add, le-of-eq}
+use native.Mathlib.Nat.{zero-add, add-assoc, le-of-eq}
 use native.Mathlib.Numerals.{add-one}
 use native.Mathlib.Omega.{arith}
 use lib.ListN.{length, getD, take, drop, set, drop-of-length-le}
-use lib.Seq.{paste, paste-suc, length-paste, take-all}
+use lib.Seq.{paste, paste-suc, length-paste, take-paste, drop-paste, take-all, take-at, take-add, drop-at, drop-drop}
 
 module _ {A : Type 0} where
   abbrev pub over : List A → List A → ℕ → List A
@@ -28,3 +28,22 @@ module _ {A : Type 0} where
   -- all entries
   pub over-all : (d s : List A) (i : ℕ) → length d ≡ i → length s ≡ i → over d s i ≡ s
   over-all d s i h k = ap₂ (λ (x y : List A). x ++ y) (take-all i s (le-of-eq k)) (drop-of-length-le d (le-of-eq h)) ∙ append-nil s
+
+  -- copied behind what stands at the front already
+  pub paste-behind : (d a x : List A) (n m : ℕ) → length a ≡ n → length x ≡ m → paste (a ++ drop n d) n x m ≡ (a ++ x) ++ drop (n + m) d
+  paste-behind d a x n m h k =
+      let e : drop (n + m) (a ++ drop n d) ≡ drop (n + m) d =
+      sym (drop-drop m n (a ++ drop n d)) ∙ ap (drop m) (drop-at a (drop n d) n h) ∙ drop-drop m n d in
+      rw (take-at a (drop n d) n h, take-all m x (le-of-eq k), e)
+
+  -- a copy that goes on: m entries more
+  pub paste-more : (d : List A) (at : ℕ) (s y : List A) (j m : ℕ) → at + j ≤ length d → j ≤ length s → take m y ≡ take m (drop j s)
+      → paste (paste d at s j) (at + j) y m ≡ paste d at s (j + m)
+  paste-more d at s y j m hd hs e =
+      let o : List A = paste d at s j in
+      let h : take (at + j) o ≡ take at d ++ take j s = take-paste d at s j (omega arith) hs in
+      let r : drop (at + j + m) o ≡ drop (at + (j + m)) d =
+      sym (drop-drop m (at + j) o) ∙ ap (drop m) (drop-paste d at s j (omega arith) hs) ∙ drop-drop m (at + j) d ∙ ap (λ (k : ℕ). drop k d) (add-assoc at j m) in
+      ap₂ (λ (x z : List A). x ++ z)
+      (ap₂ (λ (x z : List A). x ++ z) h e ∙ append-assoc (take at d) (take j s) (take m (drop j s)) ∙ ap (λ (x : List A). take at d ++ x) (sym (take-add j m s)))
+      r

@@ -2,5 +2,6 @@ pub mod Outcome
 pub mod Choice
 pub mod Table
 pub mod Copy
+pub mod Repeat
 pub mod Fill
 pub mod Faults

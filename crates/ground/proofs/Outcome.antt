@@ -1,7 +1,8 @@
 -- The general law of agreement: of a promise that is an outcome, any two results agree.
 -- Assumes nothing.
 use mathlib.Core.Path.{_≡_, sym, ap, _∙_}
-use Rattle.ground.specs.Outcome.{Outcome, Is}
+use Prim.Native.Nat.{ℕ}
+use Rattle.ground.specs.Outcome.{Outcome, Is, Told, numberOf}
 
 -- two answers that one definition gives are one answer
 pub same : {A : Type 0} {want r r' : A} → r ≡ want → r' ≡ want → r ≡ r'
@@ -14,3 +15,7 @@ agree p q = (same (p .answer) (q .answer), same (p .memory) (q .memory))
 -- a call that gave just what the definition says
 pub gave : {A M : Type 0} {want : Outcome A M} {r : A} {m : M} → want ≡ record { answer = r; memory = m } → Is want r m
 gave e = record { answer = sym (ap (λ o. o .answer) e); memory = sym (ap (λ o. o .memory) e) }
+
+-- of an outcome that tells more, the number alone
+pub number-is : {M : Type 0} {want : Outcome Told M} {t : Told} {m : M} {n : ℕ} → Is want t m → t .number ≡ n → Is (numberOf want) n m
+number-is p e = record { answer = sym e ∙ ap (λ (x : Told). x .number) (p .answer); memory = p .memory }

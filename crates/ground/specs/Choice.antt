@@ -19,6 +19,11 @@ abbrev pub either : Bool → Bool → Bool
 either true b = true
 either false b = b
 
+-- some entry of a list passes the test
+unfoldable pub any : {A : Type 0} → (A → Bool) → List A → Bool
+any t [] = false
+any t (x ∷ l) = either (t x) (any t l)
+
 -- a fault that is looked for, and the number of its refusal
 pub record Fault : Type 0 where
   pub number : ℕ

@@ -18,3 +18,7 @@ pub record Is {A M : Type 0} (want : Outcome A M) (r : A) (m : M) : Type 0 where
 pub record Told : Type 0 where
   pub number : ℕ
   pub values : List ℕ
+
+-- the same outcome with the number alone, as it is handed to C
+abbrev pub numberOf : {M : Type 0} → Outcome Told M → Outcome ℕ M
+numberOf o = record { answer = o .answer .number; memory = o .memory }

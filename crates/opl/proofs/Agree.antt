@@ -10,8 +10,56 @@ use Rattle.ground.proofs.Outcome.{agree}
 use Rattle.opl.proofs.opl_preamble as opl-preamble
 use Rattle.opl.proofs.opl_preamble.Kinds as opl-preamble-kinds
 use Rattle.opl.proofs.opl_preamble.Reads as opl-preamble-reads
+use Rattle.opl.proofs.opl_signalling_read as opl-signalling-read
+use Rattle.opl.proofs.opl_signalling_read.Kinds as opl-signalling-read-kinds
+use Rattle.opl.proofs.opl_signalling_read.Reads as opl-signalling-read-reads
+use Rattle.opl.proofs.opl_payload_write as opl-payload-write
+use Rattle.opl.proofs.opl_payload_write.Kinds as opl-payload-write-kinds
+use Rattle.opl.proofs.opl_payload_write.Reads as opl-payload-write-reads
+use Rattle.opl.proofs.opl_payload_read as opl-payload-read
+use Rattle.opl.proofs.opl_payload_read.Kinds as opl-payload-read-kinds
+use Rattle.opl.proofs.opl_payload_read.Reads as opl-payload-read-reads
+use Rattle.opl.proofs.opl_signalling_write as opl-signalling-write
+use Rattle.opl.proofs.opl_signalling_write.Kinds as opl-signalling-write-kinds
+use Rattle.opl.proofs.opl_signalling_write.Reads as opl-signalling-write-reads
+use Rattle.opl.proofs.opl_encode as opl-encode
+use Rattle.opl.proofs.opl_encode.Kinds as opl-encode-kinds
+use Rattle.opl.proofs.opl_encode.Reads as opl-encode-reads
+use Rattle.opl.proofs.opl_place as opl-place
+use Rattle.opl.proofs.opl_place.Kinds as opl-place-kinds
+use Rattle.opl.proofs.opl_place.Reads as opl-place-reads
 
 module _ (κs : Lfts 1) (a : ArgsD opl-preamble.signature κs) where
   pub opl-preamble-agrees : (r r′ : ResD opl-preamble.signature κs) (s s′ : AtExit (endedOf 1 opl-preamble-kinds.ps opl-preamble-kinds.r) κs) →
       opl-preamble-reads.Post κs a r s → opl-preamble-reads.Post κs a r′ s′ → (r ≡ r′) × (now (s .0) ≡ now (s′ .0))
   opl-preamble-agrees r r′ s s′ p q = agree p q
+
+module _ (κs : Lfts 2) (a : ArgsD opl-signalling-read.signature κs) where
+  pub opl-signalling-read-agrees : (r r′ : ResD opl-signalling-read.signature κs) (s s′ : AtExit (endedOf 2 opl-signalling-read-kinds.ps opl-signalling-read-kinds.r) κs) →
+      opl-signalling-read-reads.Post κs a r s → opl-signalling-read-reads.Post κs a r′ s′ → (r ≡ r′) × (now (s .1 .0) ≡ now (s′ .1 .0))
+  opl-signalling-read-agrees r r′ s s′ p q = agree p q
+
+module _ (κs : Lfts 2) (a : ArgsD opl-payload-write.signature κs) where
+  pub opl-payload-write-agrees : (r r′ : ResD opl-payload-write.signature κs) (s s′ : AtExit (endedOf 2 opl-payload-write-kinds.ps opl-payload-write-kinds.r) κs) →
+      opl-payload-write-reads.Post κs a r s → opl-payload-write-reads.Post κs a r′ s′ → (r ≡ r′) × (now (s .1 .1 .1 .0) ≡ now (s′ .1 .1 .1 .0))
+  opl-payload-write-agrees r r′ s s′ p q = agree p q
+
+module _ (κs : Lfts 2) (a : ArgsD opl-payload-read.signature κs) where
+  pub opl-payload-read-agrees : (r r′ : ResD opl-payload-read.signature κs) (s s′ : AtExit (endedOf 2 opl-payload-read-kinds.ps opl-payload-read-kinds.r) κs) →
+      opl-payload-read-reads.Post κs a r s → opl-payload-read-reads.Post κs a r′ s′ → (r ≡ r′) × (now (s .1 .0) ≡ now (s′ .1 .0))
+  opl-payload-read-agrees r r′ s s′ p q = agree p q
+
+module _ (κs : Lfts 2) (a : ArgsD opl-signalling-write.signature κs) where
+  pub opl-signalling-write-agrees : (r r′ : ResD opl-signalling-write.signature κs) (s s′ : AtExit (endedOf 2 opl-signalling-write-kinds.ps opl-signalling-write-kinds.r) κs) →
+      opl-signalling-write-reads.Post κs a r s → opl-signalling-write-reads.Post κs a r′ s′ → (r ≡ r′) × (now (s .1 .0) ≡ now (s′ .1 .0))
+  opl-signalling-write-agrees r r′ s s′ p q = agree p q
+
+module _ (κs : Lfts 2) (a : ArgsD opl-encode.signature κs) where
+  pub opl-encode-agrees : (r r′ : ResD opl-encode.signature κs) (s s′ : AtExit (endedOf 2 opl-encode-kinds.ps opl-encode-kinds.r) κs) →
+      opl-encode-reads.Post κs a r s → opl-encode-reads.Post κs a r′ s′ → (r ≡ r′) × (now (s .1 .1 .0) ≡ now (s′ .1 .1 .0))
+  opl-encode-agrees r r′ s s′ p q = agree p q
+
+module _ (κs : Lfts 2) (a : ArgsD opl-place.signature κs) where
+  pub opl-place-agrees : (r r′ : ResD opl-place.signature κs) (s s′ : AtExit (endedOf 2 opl-place-kinds.ps opl-place-kinds.r) κs) →
+      opl-place-reads.Post κs a r s → opl-place-reads.Post κs a r′ s′ → (r ≡ r′) × (now (s .1 .1 .0) ≡ now (s′ .1 .1 .0))
+  opl-place-agrees r r′ s s′ p q = agree p q

@@ -22,13 +22,19 @@ units-none p h =
     let e : getD rates p (over 0 0) ≡ over 0 0 = List·getD-eq-default rates (over 0 0) h in
     ap (λ (r : Rate). 6 * r .den / r .num) e
 
--- six times the inverse of a rate is a whole number
+-- six times the inverse of a rate is a whole number, above 0
 whole : ℕ → Bool
-whole p = both (eqb (rateOf p .den * 6) (unitsOf p * rateOf p .num)) (ltb 0 (rateOf p .num))
+whole p = both (ltb 0 (unitsOf p)) (both (eqb (rateOf p .den * 6) (unitsOf p * rateOf p .num)) (ltb 0 (rateOf p .num)))
 
 all-whole : T (allBelow whole 28)
 unfolding whole unitsOf rateOf rates
 all-whole = tt
+
+pub units-some : (p : ℕ) → p < 28 → 0 < unitsOf p
+unfolding whole
+units-some p h =
+    ltb→lt 0 (unitsOf p)
+    (both-left (ltb 0 (unitsOf p)) (both (eqb (rateOf p .den * 6) (unitsOf p * rateOf p .num)) (ltb 0 (rateOf p .num))) (at-all whole 28 all-whole p h))
 
 no-rate : (p : ℕ) → 27 < p → rateOf p ≡ over 0 0
 unfolding rateOf rates
@@ -42,7 +48,7 @@ length-units p n =
       | yes h ↦ (
           let num : ℕ = rateOf p .num in
           let den : ℕ = rateOf p .den in
-          let t : T (whole p) = at-all whole 28 all-whole p h in
+          let t : T (both (eqb (den * 6) (unitsOf p * num)) (ltb 0 num)) = both-right (ltb 0 (unitsOf p)) (both (eqb (den * 6) (unitsOf p * num)) (ltb 0 num)) (at-all whole 28 all-whole p h) in
           let u : den * 6 ≡ unitsOf p * num = eqb→eq (den * 6) (unitsOf p * num) (both-left (eqb (den * 6) (unitsOf p * num)) (ltb 0 num) t) in
           let z : 0 < num = ltb→lt 0 num (both-right (eqb (den * 6) (unitsOf p * num)) (ltb 0 num) t) in
           let six : 0 < 6 = omega arith in

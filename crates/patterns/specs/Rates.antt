@@ -1,4 +1,4 @@
--- The rates of the 28 puncturing patterns (tables 7, 8 and 13; document 01's table decides where they are damaged), and what follows from a rate.
+-- The rates of the 28 puncturing patterns (tables 7, 8, 11 and 13; document 01's table decides where they are damaged), and what follows from a rate.
 -- Assumes nothing.
 use Prim.Native.Nat.{ℕ, _*_, _/_}
 use mathlib.Core.List.{List, [], _∷_}

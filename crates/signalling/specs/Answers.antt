@@ -1,4 +1,4 @@
--- Document 01's number, and the values that go with it, for each case of an answer.
+-- Document 01's number, and the values that go with it, for each case of what reading a word gives.
 -- Assumes nothing.
 use mathlib.Core.List.{List, [], _∷_}
 use Rattle.ground.specs.Outcome.{Told}

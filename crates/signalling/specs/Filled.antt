@@ -16,3 +16,9 @@ pub record Counts (w : List ℕ) (p s d : ℕ) (out : List ℕ) : Type 0 where
   pub sections : d ≡ dIn (unpack w)
   pub fits : size p s d ≤ 750
   pub room : sheetEnd 12 p s d ≤ length out
+
+-- What laying out a word asks: a sheet as long as its counts say, which are within 750 bits, and 96 bytes.
+pub record Stated (sh : List ℕ) (p s d : ℕ) (out : List ℕ) : Type 0 where
+  pub sheet : length sh ≡ sheetEnd 12 p s d
+  pub fits : size p s d ≤ 750
+  pub room : length out ≡ 96

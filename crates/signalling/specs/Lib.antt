@@ -1,2 +1,4 @@
 pub mod Answers
+pub mod CheckAnswers
+pub mod WriteAnswers
 pub mod Filled

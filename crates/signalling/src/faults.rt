@@ -21,9 +21,6 @@ fn width_wrong(w: &[u8], at: usize) -> bool
         return false;
     }
     let units = patterns::units(pattern) as u32;
-    if units == 0 {
-        return false;
-    }
     crate::walk::word_bits(w, at + 6, 10) % units != 0
 }
 
@@ -129,13 +126,16 @@ pub fn judge(
     requires { ⌜ (at + 48 * p ≤ 8 * length (now w)) × (length (now w) ≤ 4096) × (s ≤ 65535) × (streams ≤ 32768) × (step ≤ 16) × (sections + 128 * p ≤ 32768) ⌝ }
     ensures { λ r. ⌜ r ≡ firstOf (refuse 9 (widthFault (cuts table16 p (drop at (unpack (now (w .entry)))))) ∷ refuse 10 (tapFault (cuts table16 p (drop at (unpack (now (w .entry))))) (fieldsAt (now (w .entry)) sections step 4 (total ownSections (cuts table16 p (drop at (unpack (now (w .entry)))))))) ∷ refuse 11 (idFault (fieldsAt (now (w .entry)) streams 16 8 s)) ∷ []) ⌝ }
 {
-    if any_width_wrong(w, at, p) {
+    let wide = any_width_wrong(w, at, p);
+    let untapped = any_taps_wrong(w, at, p, sections, step);
+    let twice = id_twice(w, streams, s);
+    if wide {
         return 9;
     }
-    if any_taps_wrong(w, at, p, sections, step) {
+    if untapped {
         return 10;
     }
-    if id_twice(w, streams, s) {
+    if twice {
         return 11;
     }
     0

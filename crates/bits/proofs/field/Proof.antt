@@ -44,8 +44,8 @@ cast-v c = search needs
 -- src/lib.rt:45:13
 add-v : tie.Need-add-v Inv-loop μ-loop
 add-v c =
-    let a = c .before .before .before .before .before .args in
-    omega (arith, pow-mono {i = c .before .before .loop .i} {j = 31} (omega arith), c .bit-from .ensures, bit-lt (a .s .now) (a .at + c .before .before .loop .i))
+    let b : c .bit-from .result < 2 = rw (c .bit-from .ensures) (bit-lt _ _) in
+    omega (arith, pow-mono {i = c .before .before .loop .i} {j = 31} (omega arith), b)
 
 -- src/lib.rt:46:9
 add-i : tie.Need-add-i Inv-loop μ-loop

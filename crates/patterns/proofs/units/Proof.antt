@@ -11,15 +11,12 @@ use Rattle.patterns.proofs.units.Tie as tie
 use Rattle.patterns.proofs.units.Reads as reads
 use Rattle.patterns.proofs.units.Lts as lts
 
--- src/lib.rt:15:9
 returns : tie.Need-returns
 returns c = sym (units-none (c .before .args .pattern) (c .if1 .taken))
 
--- src/lib.rt:17:5
 array-read-result : tie.Need-array-read-result
 array-read-result c = search needs
 
--- src/lib.rt:11:1
 returns-2 : tie.Need-returns-2
 unfolding tab unitsOf rateOf rates
 returns-2 c =

@@ -1,3 +1,11 @@
+-- `signalling::counts::owned` meets its contract. Assumes nothing.
+use Prim.Native.Nat.{ℕ, _+_, _-_, _*_, _≤_, _<_}
+use mathlib.Core.Path.{_≡_, refl, sym, ap, ap₂, _∙_}
+use native.Mathlib.Omega.{arith}
+use lib.ListN.{length, getD, take, drop}
+use Rattle.bits.specs.Lists.{unpack}
+use Rattle.description.specs.Description.{ownStreams, ownSections}
+use Rattle.signalling.proofs.Records.{pipeAt, width-at, streams-at, sections-at, own-none, own-some, pipe-bounds}
 use borrow.Author.Needs.{needs}
 use Rattle.signalling.proofs.counts.owned.Statement.{statement}
 use Rattle.signalling.proofs.counts.owned.Tie as tie
@@ -15,7 +23,11 @@ word-bits-requires c κs = search needs
 
 -- src/counts.rt:22:9
 returns : tie.Need-returns
-returns c = ?
+returns c =
+    let o = c .before .before .before in
+    let f = pipeAt (o .args .w .now) (o .args .at) in
+    let e = own-none f (sym (width-at (o .args .w .now) (o .args .at) (o .pre .0)) ∙ sym (c .before .word-bits .ensures) ∙ c .if1 .taken) in
+    (sym (e .0), sym (e .1), search needs, search needs)
 
 -- src/counts.rt:24:39
 add-word-bits-2 : tie.Need-add-word-bits-2
@@ -51,7 +63,17 @@ add-t8 c = search needs
 
 -- src/counts.rt:17:1
 returns-2 : tie.Need-returns-2
-returns-2 c = ?
+returns-2 c =
+    let o = c .before .before .before .before .before in
+    let w = o .args .w .now in
+    let at = o .args .at in
+    let f = pipeAt w at in
+    let u = c .before .before .if1 .left in
+    let e = own-some f (λ z. u (c .before .before .before .word-bits .ensures ∙ width-at w at (o .pre .0) ∙ z)) in
+    let s : c .before .word-bits2 .result + 1 ≡ ownStreams f = ap (λ (k : ℕ). k + 1) (c .before .word-bits2 .ensures ∙ streams-at w at (o .pre .0)) ∙ sym (e .0) in
+    let d : c .word-bits3 .result + 1 ≡ ownSections f = ap (λ (k : ℕ). k + 1) (c .word-bits3 .ensures ∙ sections-at w at (o .pre .0)) ∙ sym (e .1) in
+    let b = pipe-bounds w at in
+    (s, d, omega (arith, b .0), omega (arith, b .1))
 
 pub owned-spec : {M : Type 1} → statement M
 owned-spec =

@@ -1,3 +1,23 @@
+-- `signalling::faults::any_width_wrong` meets its contract. Assumes nothing.
+use Prim.Native.Nat.{ℕ, _+_, _-_, _*_, _%_, _≤_, _<_}
+use mathlib.Core.Path.{_≡_, refl, sym, ap, ap₂, _∙_}
+use mathlib.Core.Bool.{Bool, true, false, not}
+use mathlib.Core.List.{List, [], _∷_}
+use native.Mathlib.Omega.{arith}
+use native.Mathlib.Nat.{mul-le-mul}
+use borrow.Author.Tests.{eq-eqb, ne-eqb}
+use lib.Dec.{eqb}
+use lib.ListN.{length, getD, take, drop}
+use Rattle.ground.specs.Choice.{both, either, any}
+use Rattle.bits.specs.Lists.{unpack}
+use Rattle.bits.specs.Places.{fieldAt, fieldsAt}
+use borrow.Author.Needs.{needs}
+use Rattle.ground.proofs.Choice.{any-found, any-more, any-done}
+use Rattle.description.specs.Rows.{cuts}
+use Rattle.description.specs.Fields.{table16}
+use Rattle.description.specs.Tests.{widthWrong, widthFault}
+use Rattle.signalling.proofs.Records.{pipe-is}
+use Rattle.signalling.proofs.Searches.{rows-more, rows-done}
 use Rattle.signalling.proofs.faults.any_width_wrong.Statement.{statement}
 use Rattle.signalling.proofs.faults.any_width_wrong.Tie as tie
 use Rattle.signalling.proofs.faults.any_width_wrong.Reads as reads
@@ -5,46 +25,68 @@ use Rattle.signalling.proofs.faults.any_width_wrong.Lts as lts
 use Rattle.signalling.proofs.faults.width_wrong.Reads as width-wrong-reads
 
 abbrev Inv-loop : tie.InvT-loop
-Inv-loop w at p i₀ i = ?
+Inv-loop w at p i₀ i = (i ≤ p) × (widthFault (cuts table16 p (drop at (unpack w))) ≡ any widthWrong (drop i (cuts table16 p (drop at (unpack w)))))
 
 abbrev μ-loop : tie.MeasureT-loop
-μ-loop w at p i₀ i = ?
+μ-loop w at p i₀ i = p - i
 
 -- src/faults.rt:36:5
 loop-holds : tie.Need-loop-holds Inv-loop μ-loop
-loop-holds c = ?
+unfolding widthFault
+loop-holds c = (omega arith, refl)
 
 -- src/faults.rt:37:32
 mul-width-wrong : tie.Need-mul-width-wrong Inv-loop μ-loop
-mul-width-wrong c = ?
+mul-width-wrong c = search needs
 
 -- src/faults.rt:37:27
 add-width-wrong : tie.Need-add-width-wrong Inv-loop μ-loop
-add-width-wrong c = ?
+add-width-wrong c = search needs
 
 -- src/faults.rt:37:12
 width-wrong-requires : tie.Need-width-wrong-requires Inv-loop μ-loop
-width-wrong-requires c κs = ?
+width-wrong-requires c κs = search needs
 
 -- src/faults.rt:38:13
 returns : tie.Need-returns Inv-loop μ-loop
-returns c = ?
+returns c =
+    let o = c .before .before .before .before .before in
+    let l = c .before .before .before .loop in
+    let b = drop (o .args .at) (unpack (o .args .w .now)) in
+    let rows = cuts table16 (o .args .p) b in
+    let h : l .i < o .args .p = search needs in
+    sym (any-found widthWrong rows [] (widthFault rows) (l .i) (l .inv .1) (rows-more (o .args .p) (l .i) b h)
+    (ap widthWrong (pipe-is (o .args .w .now) (o .args .at) (o .args .p) (l .i) h) ∙ sym (c .before .width-wrong .ensures) ∙ c .if1 .taken))
 
 -- src/faults.rt:40:9
 add-i : tie.Need-add-i Inv-loop μ-loop
-add-i c = ?
+add-i c = search needs
 
 -- src/faults.rt:36:5
 loop-less : tie.Need-loop-less Inv-loop μ-loop
-loop-less c = ?
+loop-less c = search needs
 
 -- src/faults.rt:36:5
 loop-again : tie.Need-loop-again Inv-loop μ-loop
-loop-again c = ?
+loop-again c =
+    let o = c .before .before .before .before .before in
+    let l = c .before .before .before .loop in
+    let b = drop (o .args .at) (unpack (o .args .w .now)) in
+    let rows = cuts table16 (o .args .p) b in
+    let h : l .i < o .args .p = search needs in (
+      omega arith,
+      any-more widthWrong rows [] (widthFault rows) (l .i) (l .inv .1) (rows-more (o .args .p) (l .i) b h)
+          (ap widthWrong (pipe-is (o .args .w .now) (o .args .at) (o .args .p) (l .i) h) ∙ sym (c .before .width-wrong .ensures) ∙ c .if1 .left),
+    )
 
 -- src/faults.rt:31:1
 returns-2 : tie.Need-returns-2 Inv-loop μ-loop
-returns-2 c = ?
+returns-2 c =
+    let o = c .before .before .before in
+    let l = c .before .loop in
+    let b = drop (o .args .at) (unpack (o .args .w .now)) in
+    let rows = cuts table16 (o .args .p) b in
+    sym (any-done widthWrong rows [] (widthFault rows) (l .i) (l .inv .1) (rows-done (o .args .p) (l .i) b (search needs)))
 
 pub any-width-wrong-spec : {M : Type 1} → statement M
 any-width-wrong-spec =

@@ -1,3 +1,21 @@
+-- `signalling::faults::width_wrong` meets its contract. Assumes nothing.
+use Prim.Native.Nat.{ℕ, _+_, _-_, _*_, _%_, _≤_, _<_}
+use mathlib.Core.Path.{_≡_, refl, sym, ap, ap₂, _∙_}
+use mathlib.Core.Bool.{Bool, true, false, not}
+use mathlib.Core.List.{List, [], _∷_}
+use native.Mathlib.Omega.{arith}
+use native.Mathlib.Nat.{mul-le-mul}
+use borrow.Author.Tests.{eq-eqb, ne-eqb}
+use lib.Dec.{eqb}
+use lib.ListN.{length, getD, take, drop}
+use Rattle.ground.specs.Choice.{both, either, any}
+use Rattle.bits.specs.Lists.{unpack}
+use Rattle.bits.specs.Places.{fieldAt, fieldsAt}
+use Rattle.patterns.specs.Rates.{unitsOf}
+use Rattle.patterns.proofs.Rates.{units-some}
+use Rattle.description.specs.Fields.{punctPat, pipeWidth}
+use Rattle.signalling.proofs.Records.{pipeAt, pattern-at, width-at}
+use Rattle.signalling.proofs.Searches.{width-known, width-unknown}
 use borrow.Author.Needs.{needs}
 use Rattle.signalling.proofs.faults.width_wrong.Statement.{statement}
 use Rattle.signalling.proofs.faults.width_wrong.Tie as tie
@@ -16,7 +34,10 @@ cast-pattern c = search needs
 
 -- src/faults.rt:21:9
 returns : tie.Need-returns
-returns c = ?
+returns c =
+    let o = c .before .before .before in
+    let e = c .before .word-bits .ensures ∙ pattern-at (o .args .w .now) (o .args .at) (o .pre .0) in
+    sym (width-unknown (pipeAt (o .args .w .now) (o .args .at)) (omega (arith, c .if1 .taken)))
 
 -- src/faults.rt:23:17
 units-requires : tie.Need-units-requires
@@ -26,25 +47,29 @@ units-requires c κs = search needs
 cast-units : tie.Need-cast-units
 cast-units c = search needs
 
--- src/faults.rt:25:9
-returns-2 : tie.Need-returns-2
-returns-2 c = ?
-
--- src/faults.rt:27:31
+-- src/faults.rt:24:31
 add-word-bits : tie.Need-add-word-bits
 add-word-bits c = search needs
 
--- src/faults.rt:27:5
+-- src/faults.rt:24:5
 word-bits-requires-2 : tie.Need-word-bits-requires-2
 word-bits-requires-2 c κs = search needs
 
--- src/faults.rt:27:5
+-- src/faults.rt:24:5
 rem-result : tie.Need-rem-result
-rem-result c = search needs
+rem-result c = omega (arith, c .before .units .ensures, units-some (c .before .before .before .word-bits .result) (omega (arith, c .before .before .if1 .left)))
 
 -- src/faults.rt:15:1
-returns-3 : tie.Need-returns-3
-returns-3 c = ?
+returns-2 : tie.Need-returns-2
+returns-2 c =
+    let o = c .before .before .before .before .before in
+    let w = o .args .w .now in
+    let at = o .args .at in
+    let f = pipeAt w at in
+    let e : c .before .before .before .word-bits .result ≡ punctPat f = c .before .before .before .word-bits .ensures ∙ pattern-at w at (o .pre .0) in
+    let u : c .before .units .result ≡ unitsOf (punctPat f) = c .before .units .ensures ∙ ap unitsOf e in
+    let v : c .word-bits2 .result ≡ pipeWidth f = c .word-bits2 .ensures ∙ width-at w at (o .pre .0) in
+    ap₂ (λ (x y : ℕ). not (eqb (x % y) 0)) v u ∙ sym (width-known f (omega (arith, c .before .before .if1 .left)))
 
 pub width-wrong-spec : {M : Type 1} → statement M
 width-wrong-spec =
@@ -55,8 +80,7 @@ width-wrong-spec =
     returns
     units-requires
     cast-units
-    returns-2
     add-word-bits
     word-bits-requires-2
     rem-result
-    returns-3)
+    returns-2)

@@ -1,3 +1,13 @@
+-- `signalling::sheets::copy_bytes` meets its contract: after k turns k bytes are copied. Assumes nothing.
+use Prim.Native.Nat.{ℕ, _+_, _-_, _%_, _≤_}
+use mathlib.Core.Path.{_≡_, refl, ap, _∙_}
+use mathlib.Core.List.{List}
+use native.Mathlib.Omega.{arith}
+use borrow.Author.Needs.{needs}
+use lib.ListN.{length, drop, set}
+use lib.Seq.{paste, paste-zero}
+use Rattle.bits.specs.Lists.{unpack, pack}
+use Rattle.signalling.proofs.Copies.{byte-more}
 use Rattle.signalling.proofs.sheets.copy_bytes.Statement.{statement}
 use Rattle.signalling.proofs.sheets.copy_bytes.Tie as tie
 use Rattle.signalling.proofs.sheets.copy_bytes.Reads as reads
@@ -5,58 +15,72 @@ use Rattle.signalling.proofs.sheets.copy_bytes.Lts as lts
 use Rattle.signalling.proofs.walk.word_bits.Reads as word-bits-reads
 
 abbrev Inv-loop : tie.InvT-loop
-Inv-loop w at n out₀ to k₀ out k = ?
+Inv-loop w at n out₀ to k₀ out k = (k ≤ n) × (length out ≡ length out₀) × (out ≡ paste out₀ to (pack n (drop at (unpack w))) k)
 
 abbrev μ-loop : tie.MeasureT-loop
-μ-loop w at n out₀ to k₀ out k = ?
+μ-loop w at n out₀ to k₀ out k = n - k
 
 -- src/sheets.rt:57:5
 loop-holds : tie.Need-loop-holds Inv-loop μ-loop
-loop-holds c = ?
+loop-holds c =
+    let a = c .before .before .args in
+    (omega arith, refl, paste-zero (a .out .now) (a .to) (pack (a .n) (drop (a .at) (unpack (a .w .now)))))
 
 -- src/sheets.rt:58:55
 mul-word-bits : tie.Need-mul-word-bits Inv-loop μ-loop
-mul-word-bits c = ?
+mul-word-bits c = search needs
 
 -- src/sheets.rt:58:50
 add-word-bits : tie.Need-add-word-bits Inv-loop μ-loop
-add-word-bits c = ?
+add-word-bits c = search needs
 
 -- src/sheets.rt:58:24
 word-bits-requires : tie.Need-word-bits-requires Inv-loop μ-loop
-word-bits-requires c κs = ?
+word-bits-requires c κs = search needs
 
 -- src/sheets.rt:58:23
 cast-out : tie.Need-cast-out Inv-loop μ-loop
-cast-out c = ?
+cast-out c = search needs
 
 -- src/sheets.rt:58:13
 add-out : tie.Need-add-out Inv-loop μ-loop
-add-out c = ?
+add-out c = search needs
 
 -- src/sheets.rt:58:9
 slice-write-out : tie.Need-slice-write-out Inv-loop μ-loop
-slice-write-out c = ?
+slice-write-out c = search needs
 
 -- src/sheets.rt:59:9
 add-k : tie.Need-add-k Inv-loop μ-loop
-add-k c = ?
+add-k c = search needs
 
 -- src/sheets.rt:57:5
 loop-less : tie.Need-loop-less Inv-loop μ-loop
-loop-less c = ?
+loop-less c = search needs
 
 -- src/sheets.rt:57:5
 loop-again : tie.Need-loop-again Inv-loop μ-loop
-loop-again c = ?
+loop-again c =
+    let o = c .before .before in
+    let a = o .before .before .before .args in
+    let k = o .loop .k in (
+      search needs,
+      search needs,
+      ap (λ (l : List ℕ). set l (a .to + k) (c .word-bits .result % 256)) (o .loop .inv .2)
+          ∙ byte-more (a .out .now) (a .w .now) (a .at) (a .to) (a .n) k (c .word-bits .result) (search needs) (search needs) (search needs) (search needs),
+    )
 
 -- src/sheets.rt:52:1
 same-length : tie.Need-same-length Inv-loop μ-loop
-same-length c = ?
+same-length c = search needs
 
 -- src/sheets.rt:52:1
 returns : tie.Need-returns Inv-loop μ-loop
-returns c = ?
+returns c =
+    let o = c .before in
+    let a = o .before .before .before .args in
+    let e : o .loop .k ≡ a .n = search needs in
+    o .loop .inv .2 ∙ ap (paste (a .out .now) (a .to) (pack (a .n) (drop (a .at) (unpack (a .w .now))))) e
 
 pub copy-bytes-spec : {M : Type 1} → statement M
 copy-bytes-spec =

@@ -1,3 +1,13 @@
+-- `signalling::sheets::copy_sections` meets its contract: after k turns the two bytes of each of k sections are copied. Assumes nothing.
+use Prim.Native.Nat.{ℕ, _+_, _-_, _*_, _/_, _%_, _≤_}
+use mathlib.Core.Path.{_≡_, refl, ap, _∙_}
+use mathlib.Core.List.{List}
+use native.Mathlib.Omega.{arith}
+use borrow.Author.Needs.{needs}
+use lib.ListN.{length, drop, set, length-set}
+use lib.Seq.{paste, paste-zero}
+use Rattle.bits.specs.Lists.{unpack}
+use Rattle.signalling.proofs.Copies.{sheetSections, section-more}
 use Rattle.signalling.proofs.sheets.copy_sections.Statement.{statement}
 use Rattle.signalling.proofs.sheets.copy_sections.Tie as tie
 use Rattle.signalling.proofs.sheets.copy_sections.Reads as reads
@@ -5,82 +15,97 @@ use Rattle.signalling.proofs.sheets.copy_sections.Lts as lts
 use Rattle.signalling.proofs.walk.word_bits.Reads as word-bits-reads
 
 abbrev Inv-loop : tie.InvT-loop
-Inv-loop w at d out₀ to k₀ out k = ?
+Inv-loop w at d out₀ to k₀ out k = (k ≤ d) × (length out ≡ length out₀) × (out ≡ paste out₀ to (sheetSections d (drop at (unpack w))) (2 * k))
 
 abbrev μ-loop : tie.MeasureT-loop
-μ-loop w at d out₀ to k₀ out k = ?
+μ-loop w at d out₀ to k₀ out k = d - k
 
 -- src/sheets.rt:69:5
 loop-holds : tie.Need-loop-holds Inv-loop μ-loop
-loop-holds c = ?
+loop-holds c =
+    let a = c .before .before .args in
+    (omega arith, refl, paste-zero (a .out .now) (a .to) (sheetSections (a .d) (drop (a .at) (unpack (a .w .now)))))
 
 -- src/sheets.rt:70:48
 mul-word-bits : tie.Need-mul-word-bits Inv-loop μ-loop
-mul-word-bits c = ?
+mul-word-bits c = search needs
 
 -- src/sheets.rt:70:43
 add-word-bits : tie.Need-add-word-bits Inv-loop μ-loop
-add-word-bits c = ?
+add-word-bits c = search needs
 
 -- src/sheets.rt:70:13
 word-bits-requires : tie.Need-word-bits-requires Inv-loop μ-loop
-word-bits-requires c κs = ?
+word-bits-requires c κs = search needs
 
 -- src/sheets.rt:71:27
 cast-out : tie.Need-cast-out Inv-loop μ-loop
-cast-out c = ?
+cast-out c = search needs
 
 -- src/sheets.rt:71:18
 mul-out : tie.Need-mul-out Inv-loop μ-loop
-mul-out c = ?
+mul-out c = search needs
 
 -- src/sheets.rt:71:13
 add-out : tie.Need-add-out Inv-loop μ-loop
-add-out c = ?
+add-out c = search needs
 
 -- src/sheets.rt:71:9
 slice-write-out : tie.Need-slice-write-out Inv-loop μ-loop
-slice-write-out c = ?
+slice-write-out c = search needs
 
 -- src/sheets.rt:72:31
 cast-out-2 : tie.Need-cast-out-2 Inv-loop μ-loop
-cast-out-2 c = ?
+cast-out-2 c = search needs
 
 -- src/sheets.rt:72:18
 mul-out-2 : tie.Need-mul-out-2 Inv-loop μ-loop
-mul-out-2 c = ?
+mul-out-2 c = search needs
 
 -- src/sheets.rt:72:13
 add-out-2 : tie.Need-add-out-2 Inv-loop μ-loop
-add-out-2 c = ?
+add-out-2 c = search needs
 
 -- src/sheets.rt:72:13
 add-out-3 : tie.Need-add-out-3 Inv-loop μ-loop
-add-out-3 c = ?
+add-out-3 c = search needs
 
 -- src/sheets.rt:72:9
 slice-write-out-2 : tie.Need-slice-write-out-2 Inv-loop μ-loop
-slice-write-out-2 c = ?
+slice-write-out-2 c = simp length-set (omega arith)
 
 -- src/sheets.rt:73:9
 add-k : tie.Need-add-k Inv-loop μ-loop
-add-k c = ?
+add-k c = search needs
 
 -- src/sheets.rt:69:5
 loop-less : tie.Need-loop-less Inv-loop μ-loop
-loop-less c = ?
+loop-less c = search needs
 
 -- src/sheets.rt:69:5
 loop-again : tie.Need-loop-again Inv-loop μ-loop
-loop-again c = ?
+loop-again c =
+    let o = c .before .before in
+    let a = o .before .before .before .args in
+    let k = o .loop .k in
+    let v = c .word-bits .result in (
+      search needs,
+      search needs,
+      ap (λ (l : List ℕ). set (set l (a .to + 2 * k) (v / 256 % 256)) (a .to + 2 * k + 1) (v % 256)) (o .loop .inv .2)
+          ∙ section-more (a .out .now) (a .w .now) (a .at) (a .to) (a .d) k v (search needs) (search needs) (search needs) (search needs),
+    )
 
 -- src/sheets.rt:64:1
 same-length : tie.Need-same-length Inv-loop μ-loop
-same-length c = ?
+same-length c = search needs
 
 -- src/sheets.rt:64:1
 returns : tie.Need-returns Inv-loop μ-loop
-returns c = ?
+returns c =
+    let o = c .before in
+    let a = o .before .before .before .args in
+    let e : 2 * o .loop .k ≡ 2 * a .d = search needs in
+    o .loop .inv .2 ∙ ap (paste (a .out .now) (a .to) (sheetSections (a .d) (drop (a .at) (unpack (a .w .now))))) e
 
 pub copy-sections-spec : {M : Type 1} → statement M
 copy-sections-spec =

@@ -1,4 +1,9 @@
+-- `signalling::sheets::header_of` meets its contract: the counts are below 256, and the offsets below 65536. Assumes nothing.
+use Prim.Native.Nat.{ℕ}
+use mathlib.Core.Path.{_≡_, refl, ap₂}
+use mathlib.Core.List.{List, _∷_}
 use borrow.Author.Needs.{needs}
+use Rattle.description.specs.Sheet.{header}
 use Rattle.signalling.proofs.sheets.header_of.Statement.{statement}
 use Rattle.signalling.proofs.sheets.header_of.Tie as tie
 use Rattle.signalling.proofs.sheets.header_of.Reads as reads
@@ -66,7 +71,13 @@ cast-t27 c = search needs
 
 -- src/sheets.rt:15:1
 returns : tie.Need-returns
-returns c = ?
+unfolding header
+returns c =
+    byte (search needs) (byte (search needs) (byte (search needs) (byte refl (byte refl (byte refl
+    (byte (search needs) (byte (search needs) (byte (search needs) (byte (search needs) (byte (search needs) (byte (search needs) refl)))))))))))
+  where
+    byte : {x y : ℕ} {l m : List ℕ} → x ≡ y → l ≡ m → x ∷ l ≡ y ∷ m
+    byte e f = ap₂ (λ (x : ℕ) (l : List ℕ). x ∷ l) e f
 
 pub header-of-spec : {M : Type 1} → statement M
 header-of-spec =

@@ -1,3 +1,13 @@
+-- `signalling::sheets::put_header` meets its contract: after k bytes the first k are the header's. Assumes nothing.
+use Prim.Native.Nat.{ℕ, _-_, _≤_, _<_}
+use mathlib.Core.Path.{_≡_, refl, ap, ap₂, _∙_}
+use mathlib.Core.List.{List}
+use native.Mathlib.Omega.{arith}
+use borrow.Author.Needs.{needs}
+use lib.ListN.{length, set, getD}
+use Rattle.ground.proofs.Copy.{over, over-more}
+use Rattle.description.specs.Sheet.{header}
+use Rattle.signalling.proofs.Fill.{header-length}
 use Rattle.signalling.proofs.sheets.put_header.Statement.{statement}
 use Rattle.signalling.proofs.sheets.put_header.Tie as tie
 use Rattle.signalling.proofs.sheets.put_header.Reads as reads
@@ -5,46 +15,61 @@ use Rattle.signalling.proofs.sheets.put_header.Lts as lts
 use Rattle.signalling.proofs.sheets.header_of.Reads as header-of-reads
 
 abbrev Inv-loop : tie.InvT-loop
-Inv-loop p s d out₀ head k₀ out k = ?
+Inv-loop p s d out₀ head k₀ out k = (k ≤ 12) × (length out ≡ length out₀) × (out ≡ over out₀ (header p s d) k)
 
 abbrev μ-loop : tie.MeasureT-loop
-μ-loop p s d out₀ head k₀ out k = ?
+μ-loop p s d out₀ head k₀ out k = 12 - k
 
 -- src/sheets.rt:43:16
 header-of-requires : tie.Need-header-of-requires Inv-loop μ-loop
-header-of-requires c κs = ?
+header-of-requires c κs = search needs
 
 -- src/sheets.rt:45:5
 loop-holds : tie.Need-loop-holds Inv-loop μ-loop
-loop-holds c = ?
+loop-holds c = (omega arith, refl, refl)
 
 -- src/sheets.rt:46:18
 array-read-out : tie.Need-array-read-out Inv-loop μ-loop
-array-read-out c = ?
+array-read-out c = search needs
 
 -- src/sheets.rt:46:9
 slice-write-out : tie.Need-slice-write-out Inv-loop μ-loop
-slice-write-out c = ?
+slice-write-out c = search needs
 
 -- src/sheets.rt:47:9
 add-k : tie.Need-add-k Inv-loop μ-loop
-add-k c = ?
+add-k c = search needs
 
 -- src/sheets.rt:45:5
 loop-less : tie.Need-loop-less Inv-loop μ-loop
-loop-less c = ?
+loop-less c = search needs
 
 -- src/sheets.rt:45:5
 loop-again : tie.Need-loop-again Inv-loop μ-loop
-loop-again c = ?
+loop-again c =
+    let o = c .before in
+    let a = o .before .before .before .args in
+    let k = o .loop .k in
+    let h : List ℕ = header (a .p) (a .s) (a .d) in
+    let t : k < 12 = search needs in
+    let r : length (a .out .now) ≡ length (o .loop .out) = search needs in
+    let n : k < length h = rw header-length t in (
+      search needs,
+      search needs,
+      ap₂ (λ (l x : List ℕ). set l k (getD x k 0)) (o .loop .inv .2) (o .before .header-of .ensures) ∙ over-more (a .out .now) h k 0 (search needs) n,
+    )
 
 -- src/sheets.rt:39:1
 same-length : tie.Need-same-length Inv-loop μ-loop
-same-length c = ?
+same-length c = search needs
 
 -- src/sheets.rt:39:1
 returns : tie.Need-returns Inv-loop μ-loop
-returns c = ?
+returns c =
+    let o = c .before in
+    let a = o .before .before .before .args in
+    let e : o .loop .k ≡ 12 = search needs in
+    o .loop .inv .2 ∙ ap (over (a .out .now) (header (a .p) (a .s) (a .d))) e
 
 pub put-header-spec : {M : Type 1} → statement M
 put-header-spec =

@@ -1,3 +1,17 @@
+-- `signalling::walk::any_set` meets its contract: what is asked of the whole is asked of what is left. Assumes nothing.
+use Prim.Native.Nat.{ℕ, _+_, _-_, _*_, _≤_, _<_}
+use mathlib.Core.Path.{_≡_, refl, sym, ap, ap₂, _∙_}
+use native.Mathlib.Omega.{arith}
+use lib.ListN.{length, getD, take, drop}
+use Rattle.bits.specs.Lists.{unpack}
+use mathlib.Core.Bool.{Bool, true, false, not}
+use borrow.Author.Tests.{eq-eqb, ne-eqb}
+use Rattle.signalling.proofs.Walks.{set-at, bits-long, bits-done}
+use borrow.Author.Needs.{needs}
+use lib.Seq.{slice}
+use Rattle.ground.specs.Choice.{any}
+use Rattle.ground.proofs.Choice.{any-found, any-more, any-done}
+use Rattle.description.specs.Tests.{isSet, anySet}
 use Rattle.signalling.proofs.walk.any_set.Statement.{statement}
 use Rattle.signalling.proofs.walk.any_set.Tie as tie
 use Rattle.signalling.proofs.walk.any_set.Reads as reads
@@ -5,38 +19,58 @@ use Rattle.signalling.proofs.walk.any_set.Lts as lts
 use Rattle.signalling.proofs.walk.word_bits.Reads as word-bits-reads
 
 abbrev Inv-loop : tie.InvT-loop
-Inv-loop word from to i₀ i = ?
+Inv-loop word from to i₀ i = (i ≤ to) × (anySet (slice from to (unpack word)) ≡ any isSet (drop i (take to (unpack word))))
 
 abbrev μ-loop : tie.MeasureT-loop
-μ-loop word from to i₀ i = ?
+μ-loop word from to i₀ i = to - i
 
 -- src/walk.rt:23:5
 loop-holds : tie.Need-loop-holds Inv-loop μ-loop
-loop-holds c = ?
+unfolding anySet
+loop-holds c = (search needs, refl)
 
 -- src/walk.rt:24:12
 word-bits-requires : tie.Need-word-bits-requires Inv-loop μ-loop
-word-bits-requires c κs = ?
+word-bits-requires c κs = search needs
 
 -- src/walk.rt:25:13
 returns : tie.Need-returns Inv-loop μ-loop
-returns c = ?
+returns c =
+    let o = c .before .before .before .before .before in
+    let l = c .before .before .before .loop in
+    let b = take (o .args .to) (unpack (o .args .word .now)) in
+    let e = set-at (o .args .word .now) (o .args .to) (l .i) (search needs) (c .before .word-bits .result) (c .before .word-bits .ensures) in
+    sym (any-found isSet b 0 (anySet (slice (o .args .from) (o .args .to) (unpack (o .args .word .now)))) (l .i) (l .inv .1)
+    (bits-long (o .args .word .now) (o .args .to) (l .i) (search needs) (search needs)) (e ∙ ap not (ne-eqb (c .before .word-bits .result) 0 (c .if1 .taken))))
 
 -- src/walk.rt:27:9
 add-i : tie.Need-add-i Inv-loop μ-loop
-add-i c = ?
+add-i c = search needs
 
 -- src/walk.rt:23:5
 loop-less : tie.Need-loop-less Inv-loop μ-loop
-loop-less c = ?
+loop-less c = search needs
 
 -- src/walk.rt:23:5
 loop-again : tie.Need-loop-again Inv-loop μ-loop
-loop-again c = ?
+loop-again c =
+    let o = c .before .before .before .before .before in
+    let l = c .before .before .before .loop in
+    let b = take (o .args .to) (unpack (o .args .word .now)) in
+    let e = set-at (o .args .word .now) (o .args .to) (l .i) (search needs) (c .before .word-bits .result) (c .before .word-bits .ensures) in (
+      search needs,
+      any-more isSet b 0 (anySet (slice (o .args .from) (o .args .to) (unpack (o .args .word .now)))) (l .i) (l .inv .1)
+          (bits-long (o .args .word .now) (o .args .to) (l .i) (search needs) (search needs)) (e ∙ ap not (eq-eqb (c .before .word-bits .result) 0 (c .if1 .left))),
+    )
 
 -- src/walk.rt:18:1
 returns-2 : tie.Need-returns-2 Inv-loop μ-loop
-returns-2 c = ?
+returns-2 c =
+    let o = c .before .before .before in
+    let l = c .before .loop in
+    let b = take (o .args .to) (unpack (o .args .word .now)) in
+    sym (any-done isSet b 0 (anySet (slice (o .args .from) (o .args .to) (unpack (o .args .word .now)))) (l .i) (l .inv .1)
+    (bits-done (o .args .word .now) (o .args .to) (l .i) (search needs) (search needs)))
 
 pub any-set-spec : {M : Type 1} → statement M
 any-set-spec =

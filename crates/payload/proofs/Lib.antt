@@ -1,0 +1,9 @@
+pub mod Stores
+pub mod LastBytes
+pub mod Writing
+pub mod Faults
+pub mod Answers
+pub mod WaysBack
+pub mod Damage
+pub mod Promised
+pub mod Agree

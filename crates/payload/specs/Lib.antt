@@ -1,0 +1,4 @@
+pub mod Suffix
+pub mod Word
+pub mod Steps
+pub mod Answers

@@ -1,0 +1,16 @@
+pub mod Records
+pub mod Walks
+pub mod Searches
+pub mod Surveys
+pub mod Copies
+pub mod Fill
+pub mod Readings
+pub mod Told
+pub mod ToldCheck
+pub mod ToldWrite
+pub mod Agree
+pub mod Demand
+pub mod Headers
+pub mod Stated
+pub mod Rasters
+pub mod Judged

@@ -1,0 +1,122 @@
+-- The searches behind refusals 9, 10 and 11: one step of each.
+-- Assumes nothing.
+use Prim.Native.Nat.{ℕ, zero, suc, _+_, _-_, _*_, _%_, _≤_, _<_}
+use mathlib.Core.Path.{_≡_, refl, sym, ap, ap₂, _∙_, subst}
+use mathlib.Core.Bool.{Bool, true, false, not}
+use mathlib.Core.List.{List, [], _∷_}
+use native.Mathlib.Nat.{mul-add, add-assoc}
+use native.Mathlib.Numerals.{add-one}
+use native.Mathlib.Omega.{arith}
+use lib.Dec.{eqb, ltb}
+use lib.ListN.{length, getD, take, drop, drop-of-length-le}
+use lib.Seq.{drop-cons, drop-drop}
+use borrow.Author.Tests.{lt-ltb, le-ltb}
+use Rattle.ground.specs.Choice.{both, either, any, refuse, firstOf}
+use Rattle.ground.proofs.Choice.{both-first}
+use Rattle.bits.specs.Lists.{unpack}
+use Rattle.bits.specs.Places.{fieldAt, fieldsAt}
+use Rattle.bits.proofs.Places.{fields-length, fields-get, fields-part}
+use Rattle.patterns.specs.Rates.{unitsOf}
+use Rattle.description.specs.Rows.{total, cut, cuts}
+use Rattle.description.specs.Fields.{table16, punctPat, pipeWidth}
+use Rattle.description.specs.Description.{ownSections}
+use Rattle.description.specs.Tests.{widthWrong, tapsOf, tapsWrong, tapFault, member, idFault}
+use Rattle.description.proofs.Each.{total-take, total-le}
+use Rattle.description.proofs.Rows.{cuts-length}
+use Rattle.signalling.proofs.Records.{pipeAt, pipe-is, total-more}
+
+-- ---- 9
+pub width-known : (f : List ℕ) → punctPat f < 28 → widthWrong f ≡ not (eqb (pipeWidth f % unitsOf (punctPat f)) 0)
+unfolding widthWrong
+width-known f h = ap (λ (t : Bool). both t (not (eqb (pipeWidth f % unitsOf (punctPat f)) 0))) (lt-ltb (punctPat f) 28 h)
+
+pub width-unknown : (f : List ℕ) → 27 < punctPat f → widthWrong f ≡ false
+unfolding widthWrong
+width-unknown f h = both-first (not (eqb (pipeWidth f % unitsOf (punctPat f)) 0)) (le-ltb (punctPat f) 28 h)
+
+-- the records are as many as were cut
+pub rows-more : (p i : ℕ) (b : List ℕ) → i < p → i < length (cuts table16 p b)
+rows-more p i b h = subst (λ (n : ℕ). i < n) (sym (cuts-length table16 p b)) h
+
+pub rows-done : (p i : ℕ) (b : List ℕ) → p ≤ i → length (cuts table16 p b) ≤ i
+rows-done p i b h = subst (λ (n : ℕ). n ≤ i) (sym (cuts-length table16 p b)) h
+
+-- ---- 10
+-- the taps of one field more
+pub taps-more : (w : List ℕ) (at step n k t : ℕ) → k < n → t ≡ total tapsOf (take k (fieldsAt w at step 4 n))
+    → t + tapsOf (fieldAt w (at + step * k) 4) ≡ total tapsOf (take (k + 1) (fieldsAt w at step 4 n))
+taps-more w at step n k t h e =
+    let ts : List ℕ = fieldsAt w at step 4 n in
+    ap₂ _+_ e (ap tapsOf (sym (fields-get w at step 4 n k h)))
+    ∙ sym (ap (λ (i : ℕ). total tapsOf (take i ts)) (add-one k) ∙ total-take tapsOf ts k 0 (subst (λ (m : ℕ). k < m) (sym (fields-length w at step 4 n)) h))
+
+-- a payload pipe more, where its sections begin behind those of the pipes before
+module _ (w : List ℕ) (at p sections step i : ℕ) (more : i < p) where
+  rows : List (List ℕ)
+  rows = cuts table16 p (drop at (unpack w))
+
+  all : ℕ
+  all = total ownSections rows
+
+  done : ℕ
+  done = total ownSections (take i rows)
+
+  f : List ℕ
+  f = pipeAt w (at + 48 * i)
+
+  next : done + ownSections f ≡ total ownSections (take (i + 1) rows)
+  unfolding done rows f
+  next = total-more ownSections w at p i (total ownSections (take i (cuts table16 p (drop at (unpack w))))) more refl
+
+  within : done + ownSections f ≤ all
+  unfolding all
+  within = subst (λ (n : ℕ). n ≤ total ownSections rows) (sym next) (total-le ownSections rows (i + 1))
+
+  pub taps-step : (whole : Bool)
+      → whole ≡ tapFault (drop i (cuts table16 p (drop at (unpack w)))) (drop (total ownSections (take i (cuts table16 p (drop at (unpack w))))) (fieldsAt w sections step 4 (total ownSections (cuts table16 p (drop at (unpack w))))))
+      → whole ≡ either (tapsWrong (pipeAt w (at + 48 * i)) (fieldsAt w (sections + step * total ownSections (take i (cuts table16 p (drop at (unpack w))))) step 4 (ownSections (pipeAt w (at + 48 * i)))))
+      (tapFault (drop (i + 1) (cuts table16 p (drop at (unpack w)))) (drop (total ownSections (take (i + 1) (cuts table16 p (drop at (unpack w))))) (fieldsAt w sections step 4 (total ownSections (cuts table16 p (drop at (unpack w)))))))
+  unfolding tapFault rows all done f
+  taps-step whole e =
+      let ts : List ℕ = fieldsAt w sections step 4 all in
+      let c : drop i rows ≡ f ∷ drop (i + 1) rows =
+      drop-cons rows i [] (rows-more p i (drop at (unpack w)) more) ∙ ap₂ (λ (x : List ℕ) (k : ℕ). x ∷ drop k rows) (pipe-is w at p i more) (sym (add-one i)) in
+      e ∙ ap (λ (r : List (List ℕ)). tapFault r (drop done ts)) c
+      ∙ ap₂ (λ (x y : List ℕ). either (tapsWrong f x) (tapFault (drop (i + 1) rows) y))
+      (fields-part w sections step 4 all done (ownSections f) within)
+      (drop-drop (ownSections f) done ts ∙ ap (λ (k : ℕ). drop k ts) next)
+
+  -- the place behind its sections
+  pub place-next : (from : ℕ) → from ≡ sections + step * total ownSections (take i (cuts table16 p (drop at (unpack w))))
+      → from + step * ownSections (pipeAt w (at + 48 * i)) ≡ sections + step * total ownSections (take (i + 1) (cuts table16 p (drop at (unpack w))))
+  unfolding rows done f
+  place-next from e =
+      ap (λ (x : ℕ). x + step * ownSections f) e ∙ add-assoc sections (step * done) (step * ownSections f)
+      ∙ ap (λ (x : ℕ). sections + x) (sym (mul-add step done (ownSections f)) ∙ ap (λ (x : ℕ). step * x) next)
+
+-- ---- 11
+pub ids-step : (l : List ℕ) (i : ℕ) (whole : Bool) → i < length l → whole ≡ idFault (drop i l)
+    → whole ≡ either (member (getD l i 0) (drop (i + 1) l)) (idFault (drop (i + 1) l))
+unfolding idFault
+ids-step l i whole h e =
+    e ∙ ap idFault (drop-cons l i 0 h) ∙ ap (λ (k : ℕ). either (member (getD l i 0) (drop k l)) (idFault (drop k l))) (sym (add-one i))
+
+pub ids-done : (l : List ℕ) (i : ℕ) (whole : Bool) → length l ≤ i → whole ≡ idFault (drop i l) → whole ≡ false
+unfolding idFault
+ids-done l i whole h e = e ∙ ap idFault (drop-of-length-le l h)
+
+-- ---- the three in their order
+abbrev pub judged : Bool → Bool → Bool → ℕ
+judged a b c = firstOf (refuse 9 a ∷ refuse 10 b ∷ refuse 11 c ∷ [])
+
+pub judged-9 : {a : Bool} (b c : Bool) → a ≡ true → judged a b c ≡ 9
+judged-9 b c e = ap (λ (t : Bool). judged t b c) e
+
+pub judged-10 : {a b : Bool} (c : Bool) → a ≡ false → b ≡ true → judged a b c ≡ 10
+judged-10 c e f = ap₂ (λ (t u : Bool). judged t u c) e f
+
+pub judged-11 : {a b c : Bool} → a ≡ false → b ≡ false → c ≡ true → judged a b c ≡ 11
+judged-11 {a} {b} {c} e f g = ap₂ (λ (t u : Bool). judged t u c) e f ∙ ap (λ (t : Bool). judged false false t) g
+
+pub judged-0 : {a b c : Bool} → a ≡ false → b ≡ false → c ≡ false → judged a b c ≡ 0
+judged-0 {a} {b} {c} e f g = ap₂ (λ (t u : Bool). judged t u c) e f ∙ ap (λ (t : Bool). judged false false t) g

@@ -1,0 +1,78 @@
+-- `signalling::read` meets its contract. Assumes nothing.
+use mathlib.Core.Path.{_≡_, sym, ap, _∙_, subst}
+use Rattle.ground.specs.Outcome.{Is}
+use Rattle.description.specs.Word.{reading}
+use Rattle.signalling.specs.Answers.{told}
+use Rattle.signalling.proofs.Readings.{word-length, room-length, reading-refused, reading-done, counts}
+use borrow.Author.Needs.{needs}
+use Rattle.signalling.proofs.read.Statement.{statement}
+use Rattle.signalling.proofs.read.Tie as tie
+use Rattle.signalling.proofs.read.Reads as reads
+use Rattle.signalling.proofs.read.Lts as lts
+use Rattle.signalling.proofs.sheets.fill.Reads as fill-reads
+use Rattle.signalling.proofs.survey.Reads as survey-reads
+
+-- src/lib.rt:61:9
+returns : tie.Need-returns
+returns c =
+    let a = c .before .before .before .args in
+    word-length (a .word .now) (a .sheet .now) (c .if1 .taken)
+
+-- src/lib.rt:64:9
+returns-2 : tie.Need-returns-2
+returns-2 c =
+    let a = c .before .before .before .before .args in
+    room-length (a .word .now) (a .sheet .now) (search needs) (c .if2 .taken)
+
+-- src/lib.rt:66:9
+survey-requires : tie.Need-survey-requires
+survey-requires c κs = search needs
+
+-- src/lib.rt:67:29
+enum-known-found : tie.Need-enum-known-found
+enum-known-found c = search needs
+
+-- src/lib.rt:68:9
+enum-told : tie.Need-enum-told
+enum-told c = search needs
+
+-- src/lib.rt:68:9
+returns-3 : tie.Need-returns-3
+returns-3 c =
+    let a = c .before .before .before .before .before .before .before .args in
+    let e = c .enum-told .given .1 in
+    subst (λ t. Is (reading (a .word .now) (a .sheet .now)) (told t) (a .sheet .now)) (sym e)
+    (reading-refused (a .word .now) (a .sheet .now) (search needs) (search needs) (c .enum-told .given .0 .0) (sym (ap told e) ∙ c .before .before .survey .ensures))
+
+-- src/lib.rt:70:5
+fill-requires : tie.Need-fill-requires
+fill-requires c κs =
+    let a = c .before .before .before .before .before .before .before .before .before .args in
+    let f = c .before .before .found .given in
+    counts (a .word .now) (a .sheet .now) (search needs) (search needs) (f .0 .0) (f .0 .1 .0) (f .0 .1 .1 .0) (sym (ap told (f .1)) ∙ c .before .before .before .before .survey .ensures)
+
+-- src/lib.rt:57:1
+same-length : tie.Need-same-length
+same-length c = search needs
+
+-- src/lib.rt:57:1
+returns-4 : tie.Need-returns-4
+returns-4 c =
+    let a = c .before .before .before .before .before .before .before .before .before .before .before .before .args in
+    let f = c .before .before .before .before .before .found .given in
+    reading-done (a .word .now) (a .sheet .now) (search needs) (search needs) (f .0 .0) (f .0 .1 .0) (f .0 .1 .1 .0) _
+    (sym (ap told (f .1)) ∙ c .before .before .before .before .before .before .before .survey .ensures) (c .before .before .fill .ensures)
+
+pub read-spec : {M : Type 1} → statement M
+read-spec =
+    tie.close
+    (tie.spec
+    returns
+    returns-2
+    survey-requires
+    enum-known-found
+    enum-told
+    returns-3
+    fill-requires
+    same-length
+    returns-4)
