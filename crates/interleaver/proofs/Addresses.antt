@@ -3,15 +3,12 @@
 use Prim.Native.Nat.{ℕ, _+_, _*_, _/_, _%_, _^_, _≤_, _<_}
 use mathlib.Core.Path.{_≡_, sym, ap, ap₂, _∙_, subst}
 use mathlib.Core.Bool.{Bool}
-use mathlib.Core.Logic.{_⊎_, inl, inr, ⊎-elim}
-use mathlib.Core.List.{List}
 use native.Mathlib.Nat.{mul-le-mul}
-use native.Mathlib.Decide.{decLt, ℕ-discrete}
+use native.Mathlib.Decide.{ℕ-discrete}
 use native.Mathlib.Omega.{arith}
-use lib.Dec.{T, eqb, ltb, ltb→lt, lit≤}
-use lib.ListN.{length, getD, List·getD-eq-default}
+use lib.Dec.{T, ltb, ltb→lt, lit≤}
 use borrow.Author.Tests.{eq-eqb, ne-eqb}
-use Rattle.ground.specs.Choice.{choose, both}
+use Rattle.ground.specs.Choice.{both}
 use Rattle.ground.specs.Table.{allBelow}
 use Rattle.ground.proofs.Choice.{choose-true, choose-false, both-left, both-right}
 use Rattle.ground.proofs.Table.{at-all}

@@ -1,20 +1,20 @@
 -- The length rule: under each pattern the code bits are the block with its six tail periods, divided by the rate.
 -- Assumes nothing.
-use Prim.Native.Nat.{ℕ, _+_, _-_, _*_, _/_, _%_, _≤_, _<_}
-use mathlib.Core.Path.{_≡_, refl, sym, ap, ap₂, _∙_, subst}
+use Prim.Native.Nat.{ℕ, _+_, _-_, _*_, _/_, _%_}
+use mathlib.Core.Path.{_≡_, sym, ap, ap₂, _∙_, subst}
 use mathlib.Core.Bool.{Bool}
 use mathlib.Core.Logic.{⊎-elim}
 use mathlib.Core.List.{List, []}
-use native.Mathlib.Nat.{add-mod-left, div-add-mod', mul-left-comm}
+use native.Mathlib.Nat.{add-mod-left, div-add-mod'}
 use native.Mathlib.Omega.{arith}
-use lib.Dec.{T, eqb, leb, eqb→eq, leb→le}
+use lib.Dec.{T, eqb, eqb→eq}
 use lib.ListN.{length, getD}
 use Rattle.ground.specs.Choice.{both}
 use Rattle.ground.specs.Table.{allBelow}
 use Rattle.ground.proofs.Choice.{both-left, both-right}
 use Rattle.ground.proofs.Table.{at-all}
 use Rattle.patterns.specs.Rates.{rates, rateOf}
-use Rattle.patterns.specs.Rows.{dataRows, tailRows, dataGroup, tailGroup, groupAt, digit, copies}
+use Rattle.patterns.specs.Rows.{dataRows, tailRows, dataGroup, tailGroup, digit, copies}
 use Rattle.patterns.specs.Blocks.{Coded}
 use Rattle.patterns.specs.Sent.{places, total, codeLength}
 use Rattle.patterns.proofs.Totals.{total-cong, total-add, total-period}

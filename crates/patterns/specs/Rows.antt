@@ -1,4 +1,4 @@
--- The puncturing rows: how often each symbol of a group is sent (tables 7 and 8; document 01's table decides where they are damaged).
+-- The puncturing rows: how often each symbol of a group is sent (tables 7 and 8; their rows 1, 4, 6, 9, 19, 23 and 25 to 27 are damaged, and document 01's table decides).
 -- Assumes nothing.
 use Prim.Native.Nat.{ℕ, _-_, _*_, _+_, _/_, _%_, _^_}
 use mathlib.Core.List.{List, [], _∷_, _++_}
@@ -36,66 +36,66 @@ h = 0o11111
 -- the data rows by pattern number (table 7)
 unfoldable pub dataRows : List (List ℕ)
 dataRows =
-    (h ∷ []) ∷
-    (0o10111 ∷ h ∷ 0o11101 ∷ h ∷ []) ∷
-    (0o11101 ∷ 0o11011 ∷ []) ∷
-    (d ∷ 0o10111 ∷ d ∷ 0o11101 ∷ []) ∷
-    (e ∷ e ∷ e ∷ e ∷ e ∷ h ∷ []) ∷
-    (e ∷ []) ∷
-    (d ∷ []) ∷
-    (g ∷ e ∷ e ∷ []) ∷
-    (d ∷ f ∷ d ∷ []) ∷
-    (a ∷ d ∷ f ∷ d ∷ d ∷ f ∷ d ∷ d ∷ f ∷ d ∷ d ∷ f ∷ []) ∷
-    (e ∷ g ∷ e ∷ e ∷ g ∷ a ∷ e ∷ g ∷ e ∷ e ∷ g ∷ e ∷ []) ∷
-    (a ∷ e ∷ g ∷ e ∷ g ∷ e ∷ []) ∷
-    (d ∷ f ∷ d ∷ a ∷ d ∷ f ∷ []) ∷
-    (c ∷ b ∷ []) ∷
-    (b ∷ c ∷ []) ∷
-    (0o10100 ∷ 0o10001 ∷ []) ∷
-    (a ∷ b ∷ c ∷ []) ∷
-    (b ∷ c ∷ a ∷ []) ∷
-    (c ∷ a ∷ b ∷ []) ∷
-    (a ∷ a ∷ a ∷ d ∷ []) ∷
-    (a ∷ d ∷ a ∷ a ∷ []) ∷
-    (a ∷ a ∷ d ∷ a ∷ []) ∷
-    (a ∷ a ∷ c ∷ a ∷ a ∷ b ∷ []) ∷
-    (a ∷ b ∷ a ∷ a ∷ c ∷ a ∷ []) ∷
-    (c ∷ a ∷ a ∷ b ∷ a ∷ a ∷ []) ∷
-    (replicate 10 a ++ (0o10100 ∷ 0o10001 ∷ [])) ∷
-    (replicate 6 a ++ (0o10100 ∷ 0o10001 ∷ replicate 4 a)) ∷
-    (a ∷ a ∷ 0o10100 ∷ 0o10001 ∷ replicate 8 a) ∷ []
+    (h ∷ []) ∷  -- 0
+    (0o10111 ∷ h ∷ 0o11101 ∷ h ∷ []) ∷  -- 1
+    (0o11101 ∷ 0o11011 ∷ []) ∷  -- 2
+    (d ∷ 0o10111 ∷ d ∷ 0o11101 ∷ []) ∷  -- 3
+    (e ∷ e ∷ e ∷ e ∷ e ∷ h ∷ []) ∷  -- 4
+    (e ∷ []) ∷  -- 5
+    (d ∷ []) ∷  -- 6
+    (g ∷ e ∷ e ∷ []) ∷  -- 7
+    (d ∷ f ∷ d ∷ []) ∷  -- 8
+    (a ∷ d ∷ f ∷ d ∷ d ∷ f ∷ d ∷ d ∷ f ∷ d ∷ d ∷ f ∷ []) ∷  -- 9
+    (e ∷ g ∷ e ∷ e ∷ g ∷ a ∷ e ∷ g ∷ e ∷ e ∷ g ∷ e ∷ []) ∷  -- 10
+    (a ∷ e ∷ g ∷ e ∷ g ∷ e ∷ []) ∷  -- 11
+    (d ∷ f ∷ d ∷ a ∷ d ∷ f ∷ []) ∷  -- 12
+    (c ∷ b ∷ []) ∷  -- 13
+    (b ∷ c ∷ []) ∷  -- 14
+    (0o10100 ∷ 0o10001 ∷ []) ∷  -- 15
+    (a ∷ b ∷ c ∷ []) ∷  -- 16
+    (b ∷ c ∷ a ∷ []) ∷  -- 17
+    (c ∷ a ∷ b ∷ []) ∷  -- 18
+    (a ∷ a ∷ a ∷ d ∷ []) ∷  -- 19
+    (a ∷ d ∷ a ∷ a ∷ []) ∷  -- 20
+    (a ∷ a ∷ d ∷ a ∷ []) ∷  -- 21
+    (a ∷ a ∷ c ∷ a ∷ a ∷ b ∷ []) ∷  -- 22
+    (a ∷ b ∷ a ∷ a ∷ c ∷ a ∷ []) ∷  -- 23
+    (c ∷ a ∷ a ∷ b ∷ a ∷ a ∷ []) ∷  -- 24
+    (replicate 10 a ++ (0o10100 ∷ 0o10001 ∷ [])) ∷  -- 25
+    (replicate 6 a ++ (0o10100 ∷ 0o10001 ∷ replicate 4 a)) ∷  -- 26
+    (a ∷ a ∷ 0o10100 ∷ 0o10001 ∷ replicate 8 a) ∷ []  -- 27
 
 -- the tail rows by pattern number (table 8): the copies of X Y0 Y1 three times, then of X' Y'0 Y'1 three times
 unfoldable pub tailRows : List (List ℕ)
 tailRows =
-    replicate 6 0o311 ∷
-    (0o311 ∷ 0o311 ∷ 0o211 ∷ 0o211 ∷ 0o211 ∷ 0o311 ∷ []) ∷
-    replicate 6 0o211 ∷
-    (0o111 ∷ 0o211 ∷ 0o211 ∷ 0o211 ∷ 0o111 ∷ 0o111 ∷ []) ∷
-    (0o111 ∷ 0o111 ∷ 0o211 ∷ 0o111 ∷ 0o111 ∷ 0o211 ∷ []) ∷
-    replicate 6 0o210 ∷
-    replicate 6 0o201 ∷
-    (0o110 ∷ 0o111 ∷ 0o111 ∷ 0o110 ∷ 0o111 ∷ 0o111 ∷ []) ∷
-    (0o101 ∷ 0o111 ∷ 0o111 ∷ 0o101 ∷ 0o111 ∷ 0o111 ∷ []) ∷
-    (0o111 ∷ 0o111 ∷ 0o101 ∷ 0o111 ∷ 0o111 ∷ 0o101 ∷ []) ∷
-    (0o111 ∷ 0o110 ∷ 0o111 ∷ 0o111 ∷ 0o110 ∷ 0o111 ∷ []) ∷
-    (0o110 ∷ 0o110 ∷ 0o111 ∷ 0o110 ∷ 0o110 ∷ 0o111 ∷ []) ∷
-    (0o101 ∷ 0o101 ∷ 0o111 ∷ 0o101 ∷ 0o101 ∷ 0o111 ∷ []) ∷
-    replicate 6 0o110 ∷
-    replicate 6 0o101 ∷
-    replicate 6 0o110 ∷
-    (0o101 ∷ 0o100 ∷ 0o110 ∷ 0o100 ∷ 0o110 ∷ 0o101 ∷ []) ∷
-    (0o100 ∷ 0o110 ∷ 0o101 ∷ 0o110 ∷ 0o101 ∷ 0o100 ∷ []) ∷
-    (0o110 ∷ 0o101 ∷ 0o100 ∷ 0o101 ∷ 0o100 ∷ 0o110 ∷ []) ∷
-    (0o100 ∷ 0o101 ∷ 0o101 ∷ 0o100 ∷ 0o101 ∷ 0o101 ∷ []) ∷
-    (0o101 ∷ 0o100 ∷ 0o100 ∷ 0o101 ∷ 0o100 ∷ 0o100 ∷ []) ∷
-    (0o101 ∷ 0o101 ∷ 0o100 ∷ 0o101 ∷ 0o101 ∷ 0o100 ∷ []) ∷
-    (0o100 ∷ 0o100 ∷ 0o110 ∷ 0o100 ∷ 0o100 ∷ 0o110 ∷ []) ∷
-    (0o100 ∷ 0o110 ∷ 0o100 ∷ 0o100 ∷ 0o110 ∷ 0o100 ∷ []) ∷
-    (0o110 ∷ 0o100 ∷ 0o100 ∷ 0o110 ∷ 0o100 ∷ 0o100 ∷ []) ∷
-    (0o100 ∷ 0o101 ∷ 0o100 ∷ 0o100 ∷ 0o100 ∷ 0o101 ∷ []) ∷
-    (0o101 ∷ 0o100 ∷ 0o100 ∷ 0o100 ∷ 0o101 ∷ 0o100 ∷ []) ∷
-    replicate 6 0o100 ∷ []
+    replicate 6 0o311 ∷  -- 0
+    (0o311 ∷ 0o311 ∷ 0o211 ∷ 0o211 ∷ 0o211 ∷ 0o311 ∷ []) ∷  -- 1
+    replicate 6 0o211 ∷  -- 2
+    (0o111 ∷ 0o211 ∷ 0o211 ∷ 0o211 ∷ 0o111 ∷ 0o111 ∷ []) ∷  -- 3
+    (0o111 ∷ 0o111 ∷ 0o211 ∷ 0o111 ∷ 0o111 ∷ 0o211 ∷ []) ∷  -- 4
+    replicate 6 0o210 ∷  -- 5
+    replicate 6 0o201 ∷  -- 6
+    (0o110 ∷ 0o111 ∷ 0o111 ∷ 0o110 ∷ 0o111 ∷ 0o111 ∷ []) ∷  -- 7
+    (0o101 ∷ 0o111 ∷ 0o111 ∷ 0o101 ∷ 0o111 ∷ 0o111 ∷ []) ∷  -- 8
+    (0o111 ∷ 0o111 ∷ 0o101 ∷ 0o111 ∷ 0o111 ∷ 0o101 ∷ []) ∷  -- 9
+    (0o111 ∷ 0o110 ∷ 0o111 ∷ 0o111 ∷ 0o110 ∷ 0o111 ∷ []) ∷  -- 10
+    (0o110 ∷ 0o110 ∷ 0o111 ∷ 0o110 ∷ 0o110 ∷ 0o111 ∷ []) ∷  -- 11
+    (0o101 ∷ 0o101 ∷ 0o111 ∷ 0o101 ∷ 0o101 ∷ 0o111 ∷ []) ∷  -- 12
+    replicate 6 0o110 ∷  -- 13
+    replicate 6 0o101 ∷  -- 14
+    replicate 6 0o110 ∷  -- 15
+    (0o101 ∷ 0o100 ∷ 0o110 ∷ 0o100 ∷ 0o110 ∷ 0o101 ∷ []) ∷  -- 16
+    (0o100 ∷ 0o110 ∷ 0o101 ∷ 0o110 ∷ 0o101 ∷ 0o100 ∷ []) ∷  -- 17
+    (0o110 ∷ 0o101 ∷ 0o100 ∷ 0o101 ∷ 0o100 ∷ 0o110 ∷ []) ∷  -- 18
+    (0o100 ∷ 0o101 ∷ 0o101 ∷ 0o100 ∷ 0o101 ∷ 0o101 ∷ []) ∷  -- 19
+    (0o101 ∷ 0o100 ∷ 0o100 ∷ 0o101 ∷ 0o100 ∷ 0o100 ∷ []) ∷  -- 20
+    (0o101 ∷ 0o101 ∷ 0o100 ∷ 0o101 ∷ 0o101 ∷ 0o100 ∷ []) ∷  -- 21
+    (0o100 ∷ 0o100 ∷ 0o110 ∷ 0o100 ∷ 0o100 ∷ 0o110 ∷ []) ∷  -- 22
+    (0o100 ∷ 0o110 ∷ 0o100 ∷ 0o100 ∷ 0o110 ∷ 0o100 ∷ []) ∷  -- 23
+    (0o110 ∷ 0o100 ∷ 0o100 ∷ 0o110 ∷ 0o100 ∷ 0o100 ∷ []) ∷  -- 24
+    (0o100 ∷ 0o101 ∷ 0o100 ∷ 0o100 ∷ 0o100 ∷ 0o101 ∷ []) ∷  -- 25
+    (0o101 ∷ 0o100 ∷ 0o100 ∷ 0o100 ∷ 0o101 ∷ 0o100 ∷ []) ∷  -- 26
+    replicate 6 0o100 ∷ []  -- 27
 
 -- the data group i: the row repeats over the groups, and its last period may be cut short (clause 4.4.2)
 unfoldable pub dataGroup : ℕ → ℕ → ℕ

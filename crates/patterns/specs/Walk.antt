@@ -11,7 +11,7 @@ use Rattle.patterns.specs.Rows.{groupAt}
 unfoldable pub entries : ℕ → List ℕ
 entries p = tab (groupAt p 12) 0 18
 
--- the entry of the group i of a lane of n data groups, where j is that of the group before: 12, the first of the tail, at the group n; else the next, after the last of the data the first of them
+-- the entry of the group i of a lane of n data groups, where j is that of the group before it: at the group n the tail's first; after the last of the data their first again; else the next
 unfoldable pub nextEntry : ℕ → ℕ → ℕ → ℕ
 nextEntry n i j = choose (eqb i n) 12 (choose (eqb j 11) 0 (choose (ltb j 18) (j + 1) 0))
 

@@ -1,14 +1,13 @@
 -- Placement takes each value to the place that its code bit comes from: so a codeword's own bits give each lane symbol times its copies.
 -- Assumes nothing.
-use Prim.Native.Nat.{ℕ, zero, suc, _+_, _-_, _*_, _≤_, _<_}
+use Prim.Native.Nat.{ℕ, zero, suc, _+_, _-_, _*_, _<_}
 use mathlib.Core.Path.{_≡_, refl, sym, ap, ap₂, _∙_, subst}
-use mathlib.Core.List.{List, [], _∷_, _++_, map, map-append}
+use mathlib.Core.List.{List, _∷_, _++_, map, map-append}
 use native.Mathlib.Nat.{zero-add, zero-mul, suc-mul, add-comm}
 use native.Mathlib.Omega.{arith}
-use lib.ListN.{length, getD, take, drop, replicate, length-take, length-drop, length-replicate, getD-replicate}
+use lib.ListN.{length, getD, drop, replicate, length-take, length-drop, length-replicate, getD-replicate}
 use lib.Seq.{ext-getD, getD-take, getD-drop}
 use lib.IntN.{ℤ, pos, _+ℤ_}
-use Rattle.ground.specs.Table.{tab}
 use Rattle.ground.proofs.Table.{getD-tab}
 use Rattle.patterns.specs.Rows.{copies}
 use Rattle.patterns.specs.Sent.{places, spread, total, sent, sentFrom}

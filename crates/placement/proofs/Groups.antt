@@ -18,7 +18,7 @@ use Rattle.patterns.specs.Walk.{entries}
 use Rattle.patterns.proofs.Totals.{total-zero, total-more, total-mono, total-cong, total-add}
 use Rattle.patterns.proofs.Groups.{entryOf, entry-digit}
 use Rattle.placement.specs.Place.{held}
-use Rattle.placement.specs.Inside.{run, placedGroup, Placeable, Placed}
+use Rattle.placement.specs.Inside.{run, placedGroup, Placeable}
 
 module _ (values : List ℤ) (at counts : ℕ) (lane : List ℤ) (k : ℕ) where
   pub group-none : Is (placedGroup values at counts lane k 0) at lane

@@ -1,6 +1,6 @@
 -- How large the sum of a place's copies gets: within -384 to 381.
 -- Assumes nothing.
-use Prim.Native.Nat.{ℕ, zero, suc, _+_, _-_, _*_, _≤_, _<_}
+use Prim.Native.Nat.{ℕ, suc, _+_, _-_, _*_, _≤_, _<_}
 use mathlib.Core.Path.{_≡_, sym, ap, _∙_, subst}
 use mathlib.Core.Bool.{Bool, true, false, cond}
 use mathlib.Core.List.{List, [], _∷_}
@@ -8,11 +8,10 @@ use native.Mathlib.Nat.{zero-add}
 use native.Mathlib.Decide.{decLt}
 use native.Mathlib.Omega.{arith}
 use lib.Dec.{ltb, leb→le, le→leb, lit≤}
-use lib.ListN.{length, getD, take, drop, length-take, List·getD-eq-default}
+use lib.ListN.{length, getD, drop, length-take, List·getD-eq-default}
 use lib.Seq.{getD-take, getD-drop}
 use lib.IntN.{ℤ, pos, negsuc, _+ℤ_}
 use lib.Signed.{_≤ℤ_}
-use Rattle.ground.specs.Table.{tab}
 use Rattle.ground.proofs.Table.{getD-tab}
 use Rattle.patterns.specs.Rows.{copies}
 use Rattle.patterns.specs.Blocks.{Coded}

@@ -1,14 +1,14 @@
 -- What is known of an infoword, a pattern and a codeword that are not refused, and what the codeword then is.
 -- Assumes nothing.
-use Prim.Native.Nat.{ℕ, _+_, _-_, _*_, _/_, _%_, _≤_, _<_}
-use mathlib.Core.Path.{_≡_, refl, sym, ap, ap₂, _∙_, subst}
+use Prim.Native.Nat.{ℕ, _+_, _-_, _*_, _/_, _%_, _<_}
+use mathlib.Core.Path.{_≡_, refl, sym, ap, ap₂, _∙_}
 use mathlib.Core.Bool.{Bool, true, false}
 use mathlib.Core.Logic.{inl, inr, ⊎-elim}
 use mathlib.Core.List.{List}
 use native.Mathlib.Omega.{arith}
 use lib.Dec.{eqb, ltb}
 use lib.ListN.{length, getD}
-use borrow.Author.Tests.{eqb-true, not-false, le-ltb, eq-eqb, ne-eqb}
+use borrow.Author.Tests.{eqb-true, not-false, eq-eqb, ne-eqb}
 use Rattle.ground.specs.Choice.{choose}
 use Rattle.ground.specs.Outcome.{Is}
 use Rattle.ground.proofs.Choice.{choose-true, choose-false, all-clear}

@@ -1,17 +1,17 @@
 -- Each code bit is the lane's symbol at the place from which it is sent: the place to which placement takes its value.
 -- Assumes nothing.
-use Prim.Native.Nat.{ℕ, _*_, _/_, _%_, _≤_, _<_}
-use mathlib.Core.Path.{_≡_, sym, ap, _∙_, subst}
+use Prim.Native.Nat.{ℕ, _/_, _%_, _<_}
+use mathlib.Core.Path.{_≡_, sym, _∙_, subst}
 use mathlib.Core.List.{List}
 use native.Mathlib.Decide.{decLt}
 use native.Mathlib.Omega.{arith}
 use lib.ListN.{length, getD, List·getD-eq-default}
-use Rattle.bits.specs.Places.{bitAt, packed}
+use Rattle.bits.specs.Places.{bitAt}
 use Rattle.bits.proofs.Below.{below-get}
 use Rattle.bits.proofs.Joined.{bit-packed}
 use Rattle.patterns.specs.Rows.{copies}
 use Rattle.patterns.specs.Blocks.{Coded}
-use Rattle.patterns.specs.Sent.{places, spread, total, sent, sentFrom, codeLength}
+use Rattle.patterns.specs.Sent.{places, total, sent, sentFrom, codeLength}
 use Rattle.patterns.proofs.Length.{Length, length-rule}
 use Rattle.patterns.proofs.Spread.{length-spread, spread-from}
 use Rattle.turbo.specs.Lane.{group, laneBit}

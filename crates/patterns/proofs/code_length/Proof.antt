@@ -1,11 +1,10 @@
 -- `patterns::code_length` meets its contract. Assumes nothing.
 use Prim.Native.Nat.{ℕ, _+_, _*_, _/_, _≤_}
-use mathlib.Core.Path.{_≡_, sym, ap, _∙_}
+use mathlib.Core.Path.{sym, ap, _∙_}
 use native.Mathlib.Nat.{mul-le-mul}
 use native.Mathlib.Omega.{arith}
 use borrow.Author.Tests.{lt-ltb, le-ltb}
 use Rattle.ground.proofs.Choice.{choose-true, choose-false}
-use Rattle.patterns.specs.Rates.{unitsOf}
 use Rattle.patterns.proofs.Rates.{length-units}
 use borrow.Author.Needs.{needs}
 use Rattle.patterns.proofs.code_length.Statement.{statement}

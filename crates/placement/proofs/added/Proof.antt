@@ -2,7 +2,6 @@
 use mathlib.Core.Path.{sym, ap, _∙_, subst}
 use native.Mathlib.Omega.{arith}
 use lib.IntN.{ℤ, _+ℤ_}
-use lib.Signed.{mag}
 use mir.Syntax.{w16}
 use mir.Val.{ofZ, toZ, SFits}
 use Rattle.placement.proofs.Sums.{mag-add, byte-back, word-back, sum-back}

@@ -1,10 +1,10 @@
 -- `placement::place_all` meets its contract. Assumes nothing.
 use Prim.Native.Nat.{ℕ, _+_, _-_, _*_, _≤_, _<_}
-use mathlib.Core.Path.{_≡_, sym, ap, _∙_, subst}
+use mathlib.Core.Path.{_≡_, sym, ap, _∙_}
 use mathlib.Core.List.{List}
 use native.Mathlib.Nat.{le-antisymm}
 use native.Mathlib.Omega.{arith}
-use lib.ListN.{length, getD}
+use lib.ListN.{getD}
 use Rattle.patterns.specs.Rows.{copies}
 use Rattle.patterns.specs.Walk.{entries, nextEntry}
 use Rattle.patterns.proofs.Groups.{entryOf, entry-first, entry-next, entry-lt}

@@ -9,7 +9,6 @@ use mir.Val.{ofZ, toZ}
 use mir.ValLaws.{toZ-ofZ}
 use Rattle.ground.specs.Outcome.{Is}
 use Rattle.patterns.specs.Rows.{digit}
-use Rattle.patterns.specs.Sent.{total}
 use Rattle.patterns.proofs.Totals.{total-more, total-mono}
 use Rattle.patterns.proofs.Groups.{digit-lt}
 use Rattle.placement.specs.Inside.{placedGroup}

@@ -66,14 +66,19 @@ add-j c = search needs
 loop-less : tie.Need-loop-less Inv-loop μ-loop
 loop-less c = search needs
 
-loop-again : tie.Need-loop-again Inv-loop μ-loop
+-- the entry that is stored is that of the pattern's group
+taken : (c : tie.After-entry-from Inv-loop μ-loop)
+    → c .entry-from .result
+    ≡ entryFrom (getD (tab dataNumber 0 28) (c .before .before .before .before .args .pattern) 0) (getD (tab tailNumber 0 28) (c .before .before .before .before .args .pattern) 0)
+    (c .before .before .loop .j)
 unfolding tab dataNumber tailNumber digits digit dataGroup dataRows tailRows
+taken c = c .entry-from .ensures
+
+loop-again : tie.Need-loop-again Inv-loop μ-loop
 loop-again c =
     let p : ℕ = c .before .before .before .before .args .pattern in
     let l = c .before .before .loop in
-    let h : p < 28 = search needs in
-    let e : c .entry-from .result ≡ entryFrom (getD (tab dataNumber 0 28) p 0) (getD (tab tailNumber 0 28) p 0) (l .j) = c .entry-from .ensures in
-    (omega arith, length-set (l .t) (l .j) (c .entry-from .result) ∙ l .inv .1, fill-more (groupAt p 12) 0 (l .t) (l .j) (c .entry-from .result) (omega arith) (e ∙ stored p (l .j) h (omega arith)) (l .inv .2))
+    (omega arith, length-set (l .t) (l .j) (c .entry-from .result) ∙ l .inv .1, fill-more (groupAt p 12) 0 (l .t) (l .j) (c .entry-from .result) (omega arith) (taken c ∙ stored p (l .j) (omega arith) (omega arith)) (l .inv .2))
 
 returns-2 : tie.Need-returns-2 Inv-loop μ-loop
 unfolding entries
