@@ -1,6 +1,7 @@
 -- `patterns::units` meets its contract: the table is that of the rule. Assumes nothing.
 use mathlib.Core.Path.{sym, ap, _∙_}
 use native.Mathlib.Nat.{zero-add}
+use native.Mathlib.Omega.{arith}
 use Rattle.ground.specs.Table.{tab}
 use Rattle.ground.proofs.Table.{getD-tab}
 use Rattle.patterns.specs.Rates.{rates, rateOf, unitsOf}
@@ -12,7 +13,7 @@ use Rattle.patterns.proofs.units.Reads as reads
 use Rattle.patterns.proofs.units.Lts as lts
 
 returns : tie.Need-returns
-returns c = sym (units-none (c .before .args .pattern) (c .if1 .taken))
+returns c = sym (units-none (c .before .args .pattern) (omega (arith, c .if1 .taken)))
 
 array-read-result : tie.Need-array-read-result
 array-read-result c = search needs
