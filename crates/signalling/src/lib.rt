@@ -3,6 +3,7 @@ mod counts;
 mod faults;
 mod form1;
 mod raster;
+mod reader;
 mod sheets;
 mod walk;
 
