@@ -3,6 +3,10 @@
 
 archive := target/staticlib/libopl.a
 headend := target/examples/headend
+# the listing program, where crates.txt has it
+listing := $(if $(shell grep '^listing:' crates.txt),target/bin/listing)
+# what the demonstration is run on; `make demo sheet=FILE` takes another
+sheet := examples/sheets/story.sheet
 # folders too, so that a file that is gone counts as a change
 sources := crates.txt $(shell find crates -name must-fail -prune -o \( -type d -o -name '*.rt' -o -name '*.antt' \) -print)
 
@@ -17,14 +21,18 @@ missing = $(strip $(foreach tool,$1,$(if $(shell command -v $(tool) 2>/dev/null)
 .DELETE_ON_ERROR:
 
 help:
-	@echo 'make demo    build the library and the C head-end of examples/, and run it'
+	@echo 'make demo    build the library and the C head-end of examples/, and run it on a sheet'
 	@echo 'make test    prove everything, then test the library that was proved'
 	@echo 'make bench   compare speed with the second implementation'
 	@echo 'make lib     build the library, $(archive)'
 	@echo 'make clean   remove all that was built'
 
-demo: need-demo $(headend)
-	@sh tools/x86-64.sh run $(headend)
+# the head-end is run, and says why, even where the listing program refused the sheet
+demo: need-demo $(headend) $(listing)
+	@echo 'the sheet: $(sheet)'
+	@listed=0; \
+	$(if $(listing),sh tools/x86-64.sh run $(listing) <$(sheet) || listed=$$?;) \
+	sh tools/x86-64.sh run $(headend) $(sheet) && exit $$listed
 
 test: need-test
 	@bash tools/test.sh
@@ -40,9 +48,14 @@ clean:
 $(archive): $(sources) | need-lib
 	@rt staticlib opl
 
-$(headend): examples/headend.c include/opl.h tools/x86-64.sh $(archive)
+$(headend): examples/headend.c examples/say.h include/opl.h tools/x86-64.sh $(archive)
 	@mkdir -p $(@D)
 	@sh tools/x86-64.sh build $@ $<
+
+# after the archive, not beside it: both prove into target/; touched, as rt leaves alone what is up to date
+target/bin/listing: $(sources) | need-demo $(archive)
+	@rt check listing
+	@touch -c $@
 
 need-demo need-test need-lib need-bench: need-%:
 	$(if $(call missing,$(tools-$*)),$(error make $* needs what is not installed: $(call missing,$(tools-$*)) (README.md, "What must be installed")))@:
