@@ -1,0 +1,4 @@
+pub mod Puts
+pub mod Decimal
+pub mod Filled
+pub mod Lines

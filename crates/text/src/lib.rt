@@ -1,0 +1,3 @@
+// The listing of a sheet, as text.
+mod put;
+mod records;
