@@ -2,7 +2,7 @@
 -- Assumes nothing.
 use Prim.Native.Nat.{ℕ, zero, suc, _<_}
 use mathlib.Core.List.{List, [], _∷_, _++_}
-use lib.ListN.{length, getD, take, drop}
+use lib.ListN.{length, getD, take, drop, replicate}
 use Rattle.bits.specs.Lists.{Below}
 
 pub below-append : (m : ℕ) (a b : List ℕ) → Below m a → Below m b → Below m (a ++ b)
@@ -27,3 +27,7 @@ below-get m (x ∷ l) (suc i) z h = below-get m l i z (h .1)
 pub below-of : (m : ℕ) (l : List ℕ) → ((i : ℕ) → getD l i 0 < m) → Below m l
 below-of m [] h = tt
 below-of m (x ∷ l) h = (h 0, below-of m l (λ i. h (suc i)))
+
+pub below-replicate : (m n x : ℕ) → x < m → Below m (replicate n x)
+below-replicate m zero x h = tt
+below-replicate m (suc n) x h = (h, below-replicate m n x h)

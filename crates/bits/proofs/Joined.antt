@@ -15,7 +15,8 @@ use Rattle.bits.specs.Places.{bitAt, number, packed, fieldAt}
 use Rattle.bits.proofs.Lists.{bits-length, num-snoc, unpack-length, unpack-below, pack-length, unpack-pack, pack-unpack}
 use Rattle.bits.proofs.Places.{number-cong, field-is, packed-ext, packed-cong}
 
-bits-at : (n v i : ℕ) → i < n → getD (bits n v) i 0 ≡ v / 2 ^ (n - 1 - i) % 2
+-- bit i of the n low bits of v
+pub bits-at : (n v i : ℕ) → i < n → getD (bits n v) i 0 ≡ v / 2 ^ (n - 1 - i) % 2
 unfolding bits
 bits-at zero v i h = absurd (omega arith)
 bits-at (suc n) v zero h = ap (λ (k : ℕ). v / 2 ^ k % 2) (omega arith)

@@ -111,3 +111,10 @@ module _ {A : Type 0} (t : A → Bool) (l : List A) (z : A) (whole : Bool) (i : 
   pub any-done : length l ≤ i → whole ≡ false
   unfolding any
   any-done h = left ∙ ap (any t) (drop-of-length-le l h)
+
+-- a chain of tests: one that fails is passed, one that holds answers
+pub skip : {a b r : Bool} → a ≡ false → b ≡ r → either a b ≡ r
+skip {a} {b} {r} e f = ap (λ (t : Bool). either t b) e ∙ f
+
+pub hit : {a : Bool} (b : Bool) → a ≡ true → either a b ≡ true
+hit b e = ap (λ (t : Bool). either t b) e

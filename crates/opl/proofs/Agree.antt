@@ -19,6 +19,9 @@ use Rattle.opl.proofs.opl_payload_write.Reads as opl-payload-write-read
 use Rattle.opl.proofs.opl_payload_read as opl-payload-read
 use Rattle.opl.proofs.opl_payload_read.Kinds as opl-payload-read-kinds
 use Rattle.opl.proofs.opl_payload_read.Reads as opl-payload-read-reads
+use Rattle.opl.proofs.opl_signalling_write as opl-signalling-write
+use Rattle.opl.proofs.opl_signalling_write.Kinds as opl-signalling-write-kinds
+use Rattle.opl.proofs.opl_signalling_write.Reads as opl-signalling-write-reads
 
 module _ (κs : Lfts 1) (a : ArgsD opl-preamble.signature κs) where
   pub opl-preamble-agrees : (r r′ : ResD opl-preamble.signature κs) (s s′ : AtExit (endedOf 1 opl-preamble-kinds.ps opl-preamble-kinds.r) κs) →
@@ -39,3 +42,8 @@ module _ (κs : Lfts 2) (a : ArgsD opl-payload-read.signature κs) where
   pub opl-payload-read-agrees : (r r′ : ResD opl-payload-read.signature κs) (s s′ : AtExit (endedOf 2 opl-payload-read-kinds.ps opl-payload-read-kinds.r) κs) →
       opl-payload-read-reads.Post κs a r s → opl-payload-read-reads.Post κs a r′ s′ → (r ≡ r′) × (now (s .1 .0) ≡ now (s′ .1 .0))
   opl-payload-read-agrees r r′ s s′ p q = agree p q
+
+module _ (κs : Lfts 2) (a : ArgsD opl-signalling-write.signature κs) where
+  pub opl-signalling-write-agrees : (r r′ : ResD opl-signalling-write.signature κs) (s s′ : AtExit (endedOf 2 opl-signalling-write-kinds.ps opl-signalling-write-kinds.r) κs) →
+      opl-signalling-write-reads.Post κs a r s → opl-signalling-write-reads.Post κs a r′ s′ → (r ≡ r′) × (now (s .1 .0) ≡ now (s′ .1 .0))
+  opl-signalling-write-agrees r r′ s s′ p q = agree p q

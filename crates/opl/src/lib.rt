@@ -2,6 +2,7 @@
 // include/opl.h documents them for their callers.
 ghost use Rattle.ground.specs.Outcome.{Is, numberOf};
 ghost use Rattle.description.specs.Word.{reading};
+ghost use Rattle.description.specs.Form1.{writing};
 ghost use Rattle.payload.specs.Answers.{written as payloadWritten, readInto};
 ghost use Rattle.preamble.specs.Preamble.{written};
 
@@ -11,6 +12,17 @@ pub extern "C" fn opl_preamble(out: &mut [u8]) -> u8
     ensures { λ r. ⌜ Is (written (now (out .entry))) r (now (out .exit)) ⌝ }
 {
     preamble::write(out)
+}
+
+// The signalling word of a sheet into 96 bytes.
+#[no_mangle]
+pub extern "C" fn opl_signalling_write(sheet: &[u8], word: &mut [u8]) -> u8
+    ensures { λ r. ⌜ Is (numberOf (writing (now (sheet .entry)) (now (word .entry)))) r (now (word .exit)) ⌝ }
+{
+    match signalling::write(sheet, word) {
+        signalling::Writing::Accepted => 0,
+        signalling::Writing::Refused(n) => n,
+    }
 }
 
 // A signalling word of 96 bytes read into the front of a sheet of 128 bytes or more.

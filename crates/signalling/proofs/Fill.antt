@@ -25,14 +25,14 @@ header-length p s d = refl
 -- ---- a part behind the parts before it
 
 -- the room o is out with the n bytes a at its front
-record Front (out a : List ℕ) (n : ℕ) (o : List ℕ) : Type 0 where
-  long : length a ≡ n
-  holds : o ≡ a ++ drop n out
+pub record Front (out a : List ℕ) (n : ℕ) (o : List ℕ) : Type 0 where
+  pub long : length a ≡ n
+  pub holds : o ≡ a ++ drop n out
 
-front-none : (out : List ℕ) → Front out [] 0 out
+pub front-none : (out : List ℕ) → Front out [] 0 out
 front-none out = record { long = refl; holds = refl }
 
-front-more : {out a o o' : List ℕ} {n m : ℕ} (x : List ℕ) → length x ≡ m → Front out a n o → o' ≡ paste o n x m → Front out (a ++ x) (n + m) o'
+pub front-more : {out a o o' : List ℕ} {n m : ℕ} (x : List ℕ) → length x ≡ m → Front out a n o → o' ≡ paste o n x m → Front out (a ++ x) (n + m) o'
 front-more {out} {a} {n = n} {m} x l f e = record {
   long = length-append a x ∙ ap₂ (λ (i j : ℕ). i + j) (f .long) l;
   holds = e ∙ ap (λ (z : List ℕ). paste z n x m) (f .holds) ∙ paste-behind out a x n m (f .long) l;

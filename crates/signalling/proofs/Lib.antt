@@ -6,5 +6,11 @@ pub mod Copies
 pub mod Fill
 pub mod Readings
 pub mod Told
+pub mod ToldCheck
+pub mod ToldWrite
 pub mod Agree
 pub mod Demand
+pub mod Headers
+pub mod Stated
+pub mod Rasters
+pub mod Judged

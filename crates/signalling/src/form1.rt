@@ -10,12 +10,20 @@ ghost use Rattle.description.specs.Sheet.{sheetEnd};
 ghost use Rattle.description.specs.Tests.{anySet};
 ghost use Rattle.description.specs.Form1.{twoAt, headerFault, countFault, sheetLists, pStated, sStated, dStated, sheetFaults};
 
+// A byte of a sheet.
+pub fn byte_of(sheet: &[u8], i: usize) -> usize
+    requires { ⌜ i < length (now sheet) ⌝ }
+    ensures { λ r. ⌜ (r ≡ getD (now (sheet .entry)) i 0) × (r ≤ 255) ⌝ }
+{
+    sheet[i] as usize
+}
+
 // The number in two bytes of a sheet.
 fn two_at(sheet: &[u8], i: usize) -> usize
     requires { ⌜ i + 1 < length (now sheet) ⌝ }
     ensures { λ r. ⌜ r ≡ twoAt (now (sheet .entry)) i ⌝ }
 {
-    sheet[i] as usize * 256 + sheet[i + 1] as usize
+    byte_of(sheet, i) * 256 + byte_of(sheet, i + 1)
 }
 
 // 12: whether the header is wrong.
@@ -25,12 +33,12 @@ pub fn header_wrong(sheet: &[u8]) -> bool
     if sheet.len() < 21 {
         return true;
     }
-    if sheet[3] != 0 {
+    let streams = 21 + 6 * byte_of(sheet, 0);
+    let sections = streams + 2 * byte_of(sheet, 1);
+    let end = sections + 2 * byte_of(sheet, 2);
+    if byte_of(sheet, 3) != 0 {
         return true;
     }
-    let streams = 21 + 6 * sheet[0] as usize;
-    let sections = streams + 2 * sheet[1] as usize;
-    let end = sections + 2 * sheet[2] as usize;
     if two_at(sheet, 4) != 21 {
         return true;
     }

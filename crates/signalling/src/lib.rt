@@ -92,9 +92,9 @@ pub fn check(sheet: &[u8]) -> Checking
     if crate::form1::header_wrong(sheet) {
         return Checking::Refused(12);
     }
-    let p = sheet[0] as usize;
-    let s = sheet[1] as usize;
-    let d = sheet[2] as usize;
+    let p = crate::form1::byte_of(sheet, 0);
+    let s = crate::form1::byte_of(sheet, 1);
+    let d = crate::form1::byte_of(sheet, 2);
     let n = crate::form1::judge(sheet, p, s, d);
     if n != 0 {
         return Checking::Refused(n);

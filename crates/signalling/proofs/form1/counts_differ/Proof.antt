@@ -1,3 +1,6 @@
+-- `signalling::form1::counts_differ` meets its contract. Assumes nothing.
+use mathlib.Core.Path.{sym}
+use Rattle.signalling.proofs.Stated.{pipes-differ, streams-differ, sections-left}
 use borrow.Author.Needs.{needs}
 use Rattle.signalling.proofs.form1.counts_differ.Statement.{statement}
 use Rattle.signalling.proofs.form1.counts_differ.Tie as tie
@@ -7,37 +10,53 @@ use Rattle.signalling.proofs.counts.count.Reads as count-reads
 use Rattle.signalling.proofs.counts.tail_owned.Reads as tail-owned-reads
 use Rattle.signalling.proofs.walk.word_bits.Reads as word-bits-reads
 
--- src/form1.rt:69:13
+-- src/form1.rt:77:13
 word-bits-requires : tie.Need-word-bits-requires
 word-bits-requires c κs = search needs
 
--- src/form1.rt:69:13
+-- src/form1.rt:77:13
 cast-if1 : tie.Need-cast-if1
 cast-if1 c = search needs
 
--- src/form1.rt:70:9
+-- src/form1.rt:78:9
 returns : tie.Need-returns
-returns c = ?
+returns c =
+    let o = c .before .before .before in
+    let a = o .args in
+    sym (pipes-differ (a .sheet .now) (a .p) (a .s) (a .d) (o .pre .0) (c .before .word-bits .result) (c .before .word-bits .ensures) (c .if1 .taken))
 
--- src/form1.rt:72:9
+-- src/form1.rt:80:9
 count-requires : tie.Need-count-requires
 count-requires c κs = search needs
 
--- src/form1.rt:73:21
+-- src/form1.rt:81:21
 tail-owned-requires : tie.Need-tail-owned-requires
 tail-owned-requires c κs = search needs
 
--- src/form1.rt:73:13
+-- src/form1.rt:81:13
 add-if2 : tie.Need-add-if2
 add-if2 c = search needs
 
--- src/form1.rt:74:9
+-- src/form1.rt:82:9
 returns-2 : tie.Need-returns-2
-returns-2 c = ?
+returns-2 c =
+    let w = c .before .before .before .before .before in
+    let o = w .before .before in
+    let a = o .args in
+    let n = c .before .before .before .count in
+    sym (streams-differ (a .sheet .now) (a .p) (a .s) (a .d) (o .pre .0) (w .word-bits .result) (w .word-bits .ensures) (c .before .before .before .before .if1 .left)
+    (n .result .s) (c .before .before .tail-owned .result) (n .ensures .0) (c .before .before .tail-owned .ensures .0) (c .if2 .taken))
 
--- src/form1.rt:65:1
+-- src/form1.rt:73:1
 returns-3 : tie.Need-returns-3
-returns-3 c = ?
+returns-3 c =
+    let w = c .before .before .before .before .before .before in
+    let o = w .before .before in
+    let a = o .args in
+    let n = c .before .before .before .before .count in
+    let t = c .before .before .before .tail-owned in
+    sym (sections-left (a .sheet .now) (a .p) (a .s) (a .d) (o .pre .0) (w .word-bits .result) (w .word-bits .ensures) (c .before .before .before .before .before .if1 .left)
+    (n .result .s) (t .result) (n .ensures .0) (t .ensures .0) (c .before .if2 .left) (n .result .d) (n .ensures .1))
 
 pub counts-differ-spec : {M : Type 1} → statement M
 counts-differ-spec =

@@ -1,125 +1,165 @@
+-- `signalling::form1::header_wrong` meets its contract. Assumes nothing.
+use Prim.Native.Nat.{ℕ, _+_, _*_, _≤_}
+use mathlib.Core.Path.{_≡_, sym, ap, ap₂, _∙_}
+use mathlib.Core.Bool.{Bool, not}
+use lib.Dec.{eqb}
+use lib.ListN.{length, getD}
+use Rattle.description.specs.Sheet.{streamsFrom, sectionsFrom, sheetEnd}
+use Rattle.description.specs.Form1.{pStated, sStated, dStated, twoAt}
+use Rattle.signalling.proofs.Headers.{short, fourth, pipes-off, streams-off, sections-off, end-off, length-left}
 use borrow.Author.Needs.{needs}
 use Rattle.signalling.proofs.form1.header_wrong.Statement.{statement}
 use Rattle.signalling.proofs.form1.header_wrong.Tie as tie
 use Rattle.signalling.proofs.form1.header_wrong.Reads as reads
 use Rattle.signalling.proofs.form1.header_wrong.Lts as lts
+use Rattle.signalling.proofs.form1.byte_of.Reads as byte-of-reads
 use Rattle.signalling.proofs.form1.two_at.Reads as two-at-reads
 
--- src/form1.rt:26:9
+-- src/form1.rt:34:9
 returns : tie.Need-returns
-returns c = ?
+returns c = sym (short (c .before .before .args .sheet .now) (c .if1 .taken))
 
--- src/form1.rt:28:8
-shared-slice-read-if2 : tie.Need-shared-slice-read-if2
-shared-slice-read-if2 c = search needs
+-- src/form1.rt:36:28
+byte-of-requires : tie.Need-byte-of-requires
+byte-of-requires c κs = search needs
 
--- src/form1.rt:29:9
-returns-2 : tie.Need-returns-2
-returns-2 c = ?
-
--- src/form1.rt:31:28
-shared-slice-read-streams : tie.Need-shared-slice-read-streams
-shared-slice-read-streams c = search needs
-
--- src/form1.rt:31:28
-cast-streams : tie.Need-cast-streams
-cast-streams c = ?
-
--- src/form1.rt:31:24
+-- src/form1.rt:36:24
 mul-streams : tie.Need-mul-streams
-mul-streams c = ?
+mul-streams c = search needs
 
--- src/form1.rt:31:19
+-- src/form1.rt:36:19
 add-streams : tie.Need-add-streams
-add-streams c = ?
+add-streams c = search needs
 
--- src/form1.rt:32:34
-shared-slice-read-sections : tie.Need-shared-slice-read-sections
-shared-slice-read-sections c = search needs
+-- src/form1.rt:37:34
+byte-of-requires-2 : tie.Need-byte-of-requires-2
+byte-of-requires-2 c κs = search needs
 
--- src/form1.rt:32:34
-cast-sections : tie.Need-cast-sections
-cast-sections c = ?
-
--- src/form1.rt:32:30
+-- src/form1.rt:37:30
 mul-sections : tie.Need-mul-sections
-mul-sections c = ?
+mul-sections c = search needs
 
--- src/form1.rt:32:20
+-- src/form1.rt:37:20
 add-sections : tie.Need-add-sections
-add-sections c = ?
+add-sections c = search needs
 
--- src/form1.rt:33:30
-shared-slice-read-end : tie.Need-shared-slice-read-end
-shared-slice-read-end c = search needs
+-- src/form1.rt:38:30
+byte-of-requires-3 : tie.Need-byte-of-requires-3
+byte-of-requires-3 c κs = search needs
 
--- src/form1.rt:33:30
-cast-end : tie.Need-cast-end
-cast-end c = ?
-
--- src/form1.rt:33:26
+-- src/form1.rt:38:26
 mul-end : tie.Need-mul-end
-mul-end c = ?
+mul-end c = search needs
 
--- src/form1.rt:33:15
+-- src/form1.rt:38:15
 add-end : tie.Need-add-end
-add-end c = ?
+add-end c = search needs
 
--- src/form1.rt:34:8
+-- src/form1.rt:39:8
+byte-of-requires-4 : tie.Need-byte-of-requires-4
+byte-of-requires-4 c κs = search needs
+
+-- src/form1.rt:40:9
+returns-2 : tie.Need-returns-2
+returns-2 c =
+    let sh = c .before .before .before .before .before .before .before .args .sheet .now in
+    let long : 21 ≤ length sh = search needs in
+    sym (fourth sh long (λ e. c .if2 .taken (c .before .byte-of4 .ensures .0 ∙ e)))
+
+-- src/form1.rt:42:8
 two-at-requires : tie.Need-two-at-requires
 two-at-requires c κs = search needs
 
--- src/form1.rt:35:9
+-- src/form1.rt:43:9
 returns-3 : tie.Need-returns-3
-returns-3 c = ?
+returns-3 c =
+    let sh = c .before .before .before .before .before .before .before .before .before .args .sheet .now in
+    let long : 21 ≤ length sh = search needs in
+    let zero : getD sh 3 0 ≡ 0 = sym (c .before .before .before .byte-of4 .ensures .0) ∙ c .before .before .if2 .left in
+    sym (pipes-off sh long zero (λ e. c .if3 .taken (c .before .two-at .ensures ∙ e)))
 
--- src/form1.rt:37:8
+-- src/form1.rt:45:8
 two-at-requires-2 : tie.Need-two-at-requires-2
 two-at-requires-2 c κs = search needs
 
--- src/form1.rt:38:9
+-- src/form1.rt:46:9
 returns-4 : tie.Need-returns-4
-returns-4 c = ?
+returns-4 c =
+    let sh = c .before .before .before .before .before .before .before .before .before .before .before .args .sheet .now in
+    let long : 21 ≤ length sh = search needs in
+    let zero : getD sh 3 0 ≡ 0 = sym (c .before .before .before .before .before .byte-of4 .ensures .0) ∙ c .before .before .before .before .if2 .left in
+    let pipes : twoAt sh 4 ≡ 21 = sym (c .before .before .before .two-at .ensures) ∙ c .before .before .if3 .left in
+    let ep : 21 + 6 * c .before .before .before .before .before .before .before .before .byte-of .result ≡ streamsFrom 12 (pStated sh) = ap (λ (k : ℕ). 21 + 6 * k) (c .before .before .before .before .before .before .before .before .byte-of .ensures .0) in
+    let es : 21 + 6 * c .before .before .before .before .before .before .before .before .byte-of .result + 2 * c .before .before .before .before .before .before .before .byte-of2 .result ≡ sectionsFrom 12 (pStated sh) (sStated sh) = ap₂ (λ (x y : ℕ). x + 2 * y) ep (c .before .before .before .before .before .before .before .byte-of2 .ensures .0) in
+    let ed : 21 + 6 * c .before .before .before .before .before .before .before .before .byte-of .result + 2 * c .before .before .before .before .before .before .before .byte-of2 .result + 2 * c .before .before .before .before .before .before .byte-of3 .result ≡ sheetEnd 12 (pStated sh) (sStated sh) (dStated sh) = ap₂ (λ (x y : ℕ). x + 2 * y) es (c .before .before .before .before .before .before .byte-of3 .ensures .0) in
+    sym (streams-off sh long zero pipes (λ e. c .if4 .taken (c .before .two-at2 .ensures ∙ e ∙ sym ep)))
 
--- src/form1.rt:40:8
+-- src/form1.rt:48:8
 two-at-requires-3 : tie.Need-two-at-requires-3
 two-at-requires-3 c κs = search needs
 
--- src/form1.rt:41:9
+-- src/form1.rt:49:9
 returns-5 : tie.Need-returns-5
-returns-5 c = ?
+returns-5 c =
+    let sh = c .before .before .before .before .before .before .before .before .before .before .before .before .before .args .sheet .now in
+    let long : 21 ≤ length sh = search needs in
+    let zero : getD sh 3 0 ≡ 0 = sym (c .before .before .before .before .before .before .before .byte-of4 .ensures .0) ∙ c .before .before .before .before .before .before .if2 .left in
+    let pipes : twoAt sh 4 ≡ 21 = sym (c .before .before .before .before .before .two-at .ensures) ∙ c .before .before .before .before .if3 .left in
+    let ep : 21 + 6 * c .before .before .before .before .before .before .before .before .before .before .byte-of .result ≡ streamsFrom 12 (pStated sh) = ap (λ (k : ℕ). 21 + 6 * k) (c .before .before .before .before .before .before .before .before .before .before .byte-of .ensures .0) in
+    let es : 21 + 6 * c .before .before .before .before .before .before .before .before .before .before .byte-of .result + 2 * c .before .before .before .before .before .before .before .before .before .byte-of2 .result ≡ sectionsFrom 12 (pStated sh) (sStated sh) = ap₂ (λ (x y : ℕ). x + 2 * y) ep (c .before .before .before .before .before .before .before .before .before .byte-of2 .ensures .0) in
+    let ed : 21 + 6 * c .before .before .before .before .before .before .before .before .before .before .byte-of .result + 2 * c .before .before .before .before .before .before .before .before .before .byte-of2 .result + 2 * c .before .before .before .before .before .before .before .before .byte-of3 .result ≡ sheetEnd 12 (pStated sh) (sStated sh) (dStated sh) = ap₂ (λ (x y : ℕ). x + 2 * y) es (c .before .before .before .before .before .before .before .before .byte-of3 .ensures .0) in
+    let streams : twoAt sh 6 ≡ streamsFrom 12 (pStated sh) = sym (c .before .before .before .two-at2 .ensures) ∙ c .before .before .if4 .left ∙ ep in
+    sym (sections-off sh long zero pipes streams (λ e. c .if5 .taken (c .before .two-at3 .ensures ∙ e ∙ sym es)))
 
--- src/form1.rt:43:8
+-- src/form1.rt:51:8
 two-at-requires-4 : tie.Need-two-at-requires-4
 two-at-requires-4 c κs = search needs
 
--- src/form1.rt:44:9
+-- src/form1.rt:52:9
 returns-6 : tie.Need-returns-6
-returns-6 c = ?
+returns-6 c =
+    let sh = c .before .before .before .before .before .before .before .before .before .before .before .before .before .before .before .args .sheet .now in
+    let long : 21 ≤ length sh = search needs in
+    let zero : getD sh 3 0 ≡ 0 = sym (c .before .before .before .before .before .before .before .before .before .byte-of4 .ensures .0) ∙ c .before .before .before .before .before .before .before .before .if2 .left in
+    let pipes : twoAt sh 4 ≡ 21 = sym (c .before .before .before .before .before .before .before .two-at .ensures) ∙ c .before .before .before .before .before .before .if3 .left in
+    let ep : 21 + 6 * c .before .before .before .before .before .before .before .before .before .before .before .before .byte-of .result ≡ streamsFrom 12 (pStated sh) = ap (λ (k : ℕ). 21 + 6 * k) (c .before .before .before .before .before .before .before .before .before .before .before .before .byte-of .ensures .0) in
+    let es : 21 + 6 * c .before .before .before .before .before .before .before .before .before .before .before .before .byte-of .result + 2 * c .before .before .before .before .before .before .before .before .before .before .before .byte-of2 .result ≡ sectionsFrom 12 (pStated sh) (sStated sh) = ap₂ (λ (x y : ℕ). x + 2 * y) ep (c .before .before .before .before .before .before .before .before .before .before .before .byte-of2 .ensures .0) in
+    let ed : 21 + 6 * c .before .before .before .before .before .before .before .before .before .before .before .before .byte-of .result + 2 * c .before .before .before .before .before .before .before .before .before .before .before .byte-of2 .result + 2 * c .before .before .before .before .before .before .before .before .before .before .byte-of3 .result ≡ sheetEnd 12 (pStated sh) (sStated sh) (dStated sh) = ap₂ (λ (x y : ℕ). x + 2 * y) es (c .before .before .before .before .before .before .before .before .before .before .byte-of3 .ensures .0) in
+    let streams : twoAt sh 6 ≡ streamsFrom 12 (pStated sh) = sym (c .before .before .before .before .before .two-at2 .ensures) ∙ c .before .before .before .before .if4 .left ∙ ep in
+    let sections : twoAt sh 8 ≡ sectionsFrom 12 (pStated sh) (sStated sh) = sym (c .before .before .before .two-at3 .ensures) ∙ c .before .before .if5 .left ∙ es in
+    sym (end-off sh long zero pipes streams sections (λ e. c .if6 .taken (c .before .two-at4 .ensures ∙ e ∙ sym ed)))
 
--- src/form1.rt:22:1
+-- src/form1.rt:30:1
 returns-7 : tie.Need-returns-7
-returns-7 c = ?
+returns-7 c =
+    let sh = c .before .before .before .before .before .before .before .before .before .before .before .before .before .before .before .args .sheet .now in
+    let long : 21 ≤ length sh = search needs in
+    let zero : getD sh 3 0 ≡ 0 = sym (c .before .before .before .before .before .before .before .before .before .byte-of4 .ensures .0) ∙ c .before .before .before .before .before .before .before .before .if2 .left in
+    let pipes : twoAt sh 4 ≡ 21 = sym (c .before .before .before .before .before .before .before .two-at .ensures) ∙ c .before .before .before .before .before .before .if3 .left in
+    let ep : 21 + 6 * c .before .before .before .before .before .before .before .before .before .before .before .before .byte-of .result ≡ streamsFrom 12 (pStated sh) = ap (λ (k : ℕ). 21 + 6 * k) (c .before .before .before .before .before .before .before .before .before .before .before .before .byte-of .ensures .0) in
+    let es : 21 + 6 * c .before .before .before .before .before .before .before .before .before .before .before .before .byte-of .result + 2 * c .before .before .before .before .before .before .before .before .before .before .before .byte-of2 .result ≡ sectionsFrom 12 (pStated sh) (sStated sh) = ap₂ (λ (x y : ℕ). x + 2 * y) ep (c .before .before .before .before .before .before .before .before .before .before .before .byte-of2 .ensures .0) in
+    let ed : 21 + 6 * c .before .before .before .before .before .before .before .before .before .before .before .before .byte-of .result + 2 * c .before .before .before .before .before .before .before .before .before .before .before .byte-of2 .result + 2 * c .before .before .before .before .before .before .before .before .before .before .byte-of3 .result ≡ sheetEnd 12 (pStated sh) (sStated sh) (dStated sh) = ap₂ (λ (x y : ℕ). x + 2 * y) es (c .before .before .before .before .before .before .before .before .before .before .byte-of3 .ensures .0) in
+    let streams : twoAt sh 6 ≡ streamsFrom 12 (pStated sh) = sym (c .before .before .before .before .before .two-at2 .ensures) ∙ c .before .before .before .before .if4 .left ∙ ep in
+    let sections : twoAt sh 8 ≡ sectionsFrom 12 (pStated sh) (sStated sh) = sym (c .before .before .before .two-at3 .ensures) ∙ c .before .before .if5 .left ∙ es in
+    let end : twoAt sh 10 ≡ sheetEnd 12 (pStated sh) (sStated sh) (dStated sh) = sym (c .before .two-at4 .ensures) ∙ c .if6 .left ∙ ed in
+    ap (λ (k : ℕ). not (eqb (length sh) k)) ed ∙ sym (length-left sh long zero pipes streams sections end)
 
 pub header-wrong-spec : {M : Type 1} → statement M
 header-wrong-spec =
     tie.close
     (tie.spec
     returns
-    shared-slice-read-if2
-    returns-2
-    shared-slice-read-streams
-    cast-streams
+    byte-of-requires
     mul-streams
     add-streams
-    shared-slice-read-sections
-    cast-sections
+    byte-of-requires-2
     mul-sections
     add-sections
-    shared-slice-read-end
-    cast-end
+    byte-of-requires-3
     mul-end
     add-end
+    byte-of-requires-4
+    returns-2
     two-at-requires
     returns-3
     two-at-requires-2

@@ -1,3 +1,16 @@
+-- `signalling::form1::top_set` meets its contract. Assumes nothing.
+use Prim.Native.Nat.{ℕ, _+_, _-_, _*_, _≤_, _<_}
+use mathlib.Core.Path.{_≡_, refl, sym, ap, _∙_}
+use mathlib.Core.Bool.{Bool, true, false, not}
+use native.Mathlib.Omega.{arith}
+use borrow.Author.Needs.{needs}
+use borrow.Author.Tests.{eq-eqb, ne-eqb}
+use lib.ListN.{length, getD, drop}
+use Rattle.ground.specs.Choice.{any}
+use Rattle.ground.proofs.Choice.{any-found, any-more, any-done}
+use Rattle.bits.specs.Places.{fieldsAt}
+use Rattle.bits.proofs.Places.{fields-length, fields-get}
+use Rattle.description.specs.Tests.{isSet, anySet}
 use Rattle.signalling.proofs.form1.top_set.Statement.{statement}
 use Rattle.signalling.proofs.form1.top_set.Tie as tie
 use Rattle.signalling.proofs.form1.top_set.Reads as reads
@@ -5,46 +18,67 @@ use Rattle.signalling.proofs.form1.top_set.Lts as lts
 use Rattle.signalling.proofs.walk.word_bits.Reads as word-bits-reads
 
 abbrev Inv-loop : tie.InvT-loop
-Inv-loop sheet at d k₀ k = ?
+Inv-loop sheet at d k₀ k = (k ≤ d) × (anySet (fieldsAt sheet at 16 4 d) ≡ any isSet (drop k (fieldsAt sheet at 16 4 d)))
 
 abbrev μ-loop : tie.MeasureT-loop
-μ-loop sheet at d k₀ k = ?
+μ-loop sheet at d k₀ k = d - k
 
--- src/form1.rt:55:5
+-- src/form1.rt:63:5
 loop-holds : tie.Need-loop-holds Inv-loop μ-loop
-loop-holds c = ?
+unfolding anySet
+loop-holds c = (omega arith, refl)
 
--- src/form1.rt:56:47
+-- src/form1.rt:64:47
 mul-word-bits : tie.Need-mul-word-bits Inv-loop μ-loop
-mul-word-bits c = ?
+mul-word-bits c = search needs
 
--- src/form1.rt:56:42
+-- src/form1.rt:64:42
 add-word-bits : tie.Need-add-word-bits Inv-loop μ-loop
-add-word-bits c = ?
+add-word-bits c = search needs
 
--- src/form1.rt:56:12
+-- src/form1.rt:64:12
 word-bits-requires : tie.Need-word-bits-requires Inv-loop μ-loop
-word-bits-requires c κs = ?
+word-bits-requires c κs = search needs
 
--- src/form1.rt:57:13
+-- src/form1.rt:65:13
 returns : tie.Need-returns Inv-loop μ-loop
-returns c = ?
+returns c =
+    let o = c .before .before .before .before .before in
+    let l = c .before .before .before .loop in
+    let tops = fieldsAt (o .args .sheet .now) (o .args .at) 16 4 (o .args .d) in
+    let h : l .k < o .args .d = search needs in
+    let e : getD tops (l .k) 0 ≡ c .before .word-bits .result = fields-get (o .args .sheet .now) (o .args .at) 16 4 (o .args .d) (l .k) h ∙ sym (c .before .word-bits .ensures) in
+    sym (any-found isSet tops 0 (anySet tops) (l .k) (l .inv .1)
+    (omega (arith, fields-length (o .args .sheet .now) (o .args .at) 16 4 (o .args .d))) (ap isSet e ∙ ap not (ne-eqb (c .before .word-bits .result) 0 (c .if1 .taken))))
 
--- src/form1.rt:59:9
+-- src/form1.rt:67:9
 add-k : tie.Need-add-k Inv-loop μ-loop
-add-k c = ?
+add-k c = search needs
 
--- src/form1.rt:55:5
+-- src/form1.rt:63:5
 loop-less : tie.Need-loop-less Inv-loop μ-loop
-loop-less c = ?
+loop-less c = search needs
 
--- src/form1.rt:55:5
+-- src/form1.rt:63:5
 loop-again : tie.Need-loop-again Inv-loop μ-loop
-loop-again c = ?
+loop-again c =
+    let o = c .before .before .before .before .before in
+    let l = c .before .before .before .loop in
+    let tops = fieldsAt (o .args .sheet .now) (o .args .at) 16 4 (o .args .d) in
+    let h : l .k < o .args .d = search needs in
+    let e : getD tops (l .k) 0 ≡ c .before .word-bits .result = fields-get (o .args .sheet .now) (o .args .at) 16 4 (o .args .d) (l .k) h ∙ sym (c .before .word-bits .ensures) in (
+      omega arith,
+      any-more isSet tops 0 (anySet tops) (l .k) (l .inv .1)
+          (omega (arith, fields-length (o .args .sheet .now) (o .args .at) 16 4 (o .args .d))) (ap isSet e ∙ ap not (eq-eqb (c .before .word-bits .result) 0 (c .if1 .left))),
+    )
 
--- src/form1.rt:50:1
+-- src/form1.rt:58:1
 returns-2 : tie.Need-returns-2 Inv-loop μ-loop
-returns-2 c = ?
+returns-2 c =
+    let o = c .before .before .before in
+    let l = c .before .loop in
+    let tops = fieldsAt (o .args .sheet .now) (o .args .at) 16 4 (o .args .d) in
+    sym (any-done isSet tops 0 (anySet tops) (l .k) (l .inv .1) (omega (arith, fields-length (o .args .sheet .now) (o .args .at) 16 4 (o .args .d))))
 
 pub top-set-spec : {M : Type 1} → statement M
 top-set-spec =

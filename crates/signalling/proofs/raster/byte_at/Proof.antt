@@ -1,49 +1,69 @@
+-- `signalling::raster::byte_at` meets its contract: after i turns the number is that of i bits. Assumes nothing.
+use Prim.Native.Nat.{_+_, _-_, _≤_}
+use mathlib.Core.Path.{_≡_}
+use native.Mathlib.Omega.{arith}
+use borrow.Author.Needs.{needs}
+use lib.ListN.{take, drop}
+use Rattle.bits.specs.Lists.{num}
+use Rattle.signalling.proofs.Rasters.{byte-more, byte-lt}
 use Rattle.signalling.proofs.raster.byte_at.Statement.{statement}
 use Rattle.signalling.proofs.raster.byte_at.Tie as tie
 use Rattle.signalling.proofs.raster.byte_at.Reads as reads
 use Rattle.signalling.proofs.raster.byte_at.Lts as lts
 
 abbrev Inv-loop : tie.InvT-loop
-Inv-loop b at v₀ i₀ v i = ?
+Inv-loop b at v₀ i₀ v i = (i ≤ 8) × (v ≡ num (take i (drop at b)))
 
 abbrev μ-loop : tie.MeasureT-loop
-μ-loop b at v₀ i₀ v i = ?
+μ-loop b at v₀ i₀ v i = 8 - i
 
 -- src/raster.rt:56:5
 loop-holds : tie.Need-loop-holds Inv-loop μ-loop
-loop-holds c = ?
+unfolding num
+loop-holds c = search needs
 
 -- src/raster.rt:57:13
 mul-v : tie.Need-mul-v Inv-loop μ-loop
-mul-v c = ?
+mul-v c =
+    let a = c .before .before .args in
+    omega (arith, byte-lt 7 (c .before .loop .i) (a .b .now) (a .at) (search needs) (search needs))
 
 -- src/raster.rt:57:23
 add-v : tie.Need-add-v Inv-loop μ-loop
-add-v c = ?
+add-v c = search needs
 
 -- src/raster.rt:57:21
 shared-slice-read-v : tie.Need-shared-slice-read-v Inv-loop μ-loop
-shared-slice-read-v c = ?
+shared-slice-read-v c = search needs
 
 -- src/raster.rt:57:13
 add-v-2 : tie.Need-add-v-2 Inv-loop μ-loop
-add-v-2 c = ?
+add-v-2 c =
+    let o = c .before .before in
+    let a = o .before .args in
+    let i = o .loop .i in
+    omega (arith, byte-lt 8 (i + 1) (a .b .now) (a .at) (search needs) (search needs), byte-more (a .b .now) (a .at) i (search needs))
 
 -- src/raster.rt:58:9
 add-i : tie.Need-add-i Inv-loop μ-loop
-add-i c = ?
+add-i c = search needs
 
 -- src/raster.rt:56:5
 loop-less : tie.Need-loop-less Inv-loop μ-loop
-loop-less c = ?
+loop-less c = search needs
 
 -- src/raster.rt:56:5
 loop-again : tie.Need-loop-again Inv-loop μ-loop
-loop-again c = ?
+loop-again c =
+    let o = c .before .before in
+    let a = o .before .args in
+    (search needs, omega (arith, byte-more (a .b .now) (a .at) (o .loop .i) (search needs)))
 
 -- src/raster.rt:50:1
 returns : tie.Need-returns Inv-loop μ-loop
-returns c = ?
+returns c =
+    let e : c .before .loop .i ≡ 8 = search needs in
+    rw e at (c .before .loop .inv .1)
 
 pub byte-at-spec : {M : Type 1} → statement M
 byte-at-spec =

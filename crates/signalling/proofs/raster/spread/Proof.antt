@@ -1,3 +1,13 @@
+-- `signalling::raster::spread` meets its contract: after i turns i bits are copied. Assumes nothing.
+use Prim.Native.Nat.{ℕ, _+_, _-_, _%_, _≤_}
+use mathlib.Core.Path.{_≡_, refl, ap, _∙_}
+use mathlib.Core.List.{List}
+use native.Mathlib.Omega.{arith}
+use borrow.Author.Needs.{needs}
+use lib.ListN.{length, take, drop, set}
+use lib.Seq.{paste, paste-zero}
+use Rattle.bits.specs.Lists.{unpack}
+use Rattle.signalling.proofs.Rasters.{bit-more}
 use Rattle.signalling.proofs.raster.spread.Statement.{statement}
 use Rattle.signalling.proofs.raster.spread.Tie as tie
 use Rattle.signalling.proofs.raster.spread.Reads as reads
@@ -5,54 +15,68 @@ use Rattle.signalling.proofs.raster.spread.Lts as lts
 use Rattle.signalling.proofs.walk.word_bits.Reads as word-bits-reads
 
 abbrev Inv-loop : tie.InvT-loop
-Inv-loop w at n out₀ to i₀ out i = ?
+Inv-loop w at n out₀ to i₀ out i = (i ≤ n) × (length out ≡ length out₀) × (out ≡ paste out₀ to (take n (drop at (unpack w))) i)
 
 abbrev μ-loop : tie.MeasureT-loop
-μ-loop w at n out₀ to i₀ out i = ?
+μ-loop w at n out₀ to i₀ out i = n - i
 
 -- src/raster.rt:19:5
 loop-holds : tie.Need-loop-holds Inv-loop μ-loop
-loop-holds c = ?
+loop-holds c =
+    let a = c .before .before .args in
+    (omega arith, refl, paste-zero (a .out .now) (a .to) (take (a .n) (drop (a .at) (unpack (a .w .now)))))
 
 -- src/raster.rt:20:50
 add-word-bits : tie.Need-add-word-bits Inv-loop μ-loop
-add-word-bits c = ?
+add-word-bits c = search needs
 
 -- src/raster.rt:20:24
 word-bits-requires : tie.Need-word-bits-requires Inv-loop μ-loop
-word-bits-requires c κs = ?
+word-bits-requires c κs = search needs
 
 -- src/raster.rt:20:23
 cast-out : tie.Need-cast-out Inv-loop μ-loop
-cast-out c = ?
+cast-out c = search needs
 
 -- src/raster.rt:20:13
 add-out : tie.Need-add-out Inv-loop μ-loop
-add-out c = ?
+add-out c = search needs
 
 -- src/raster.rt:20:9
 slice-write-out : tie.Need-slice-write-out Inv-loop μ-loop
-slice-write-out c = ?
+slice-write-out c = search needs
 
 -- src/raster.rt:21:9
 add-i : tie.Need-add-i Inv-loop μ-loop
-add-i c = ?
+add-i c = search needs
 
 -- src/raster.rt:19:5
 loop-less : tie.Need-loop-less Inv-loop μ-loop
-loop-less c = ?
+loop-less c = search needs
 
 -- src/raster.rt:19:5
 loop-again : tie.Need-loop-again Inv-loop μ-loop
-loop-again c = ?
+loop-again c =
+    let o = c .before .before in
+    let a = o .before .before .before .args in
+    let i = o .loop .i in (
+      search needs,
+      search needs,
+      ap (λ (l : List ℕ). set l (a .to + i) (c .word-bits .result % 256)) (o .loop .inv .2)
+          ∙ bit-more (a .out .now) (a .w .now) (a .at) (a .to) (a .n) i (c .word-bits .result) (search needs) (search needs) (search needs) (search needs),
+    )
 
 -- src/raster.rt:14:1
 same-length : tie.Need-same-length Inv-loop μ-loop
-same-length c = ?
+same-length c = search needs
 
 -- src/raster.rt:14:1
 returns : tie.Need-returns Inv-loop μ-loop
-returns c = ?
+returns c =
+    let o = c .before in
+    let a = o .before .before .before .args in
+    let e : o .loop .i ≡ a .n = search needs in
+    o .loop .inv .2 ∙ ap (paste (a .out .now) (a .to) (take (a .n) (drop (a .at) (unpack (a .w .now))))) e
 
 pub spread-spec : {M : Type 1} → statement M
 spread-spec =

@@ -1,0 +1,43 @@
+-- `opl::opl_signalling_write` meets its contract. Assumes nothing.
+use mathlib.Core.Path.{ap}
+use Rattle.ground.proofs.Outcome.{number-is}
+use Rattle.signalling.specs.WriteAnswers.{toldWrite}
+use borrow.Author.Needs.{needs}
+use Rattle.opl.proofs.opl_signalling_write.Statement.{statement}
+use Rattle.opl.proofs.opl_signalling_write.Tie as tie
+use Rattle.opl.proofs.opl_signalling_write.Reads as reads
+use Rattle.opl.proofs.opl_signalling_write.Lts as lts
+use Rattle.signalling.proofs.write.Reads as write-reads
+
+-- src/lib.rt:22:11
+write-requires : tie.Need-write-requires
+write-requires c κs = search needs
+
+-- src/lib.rt:23:42
+enum-told : tie.Need-enum-told
+enum-told c = search needs
+
+-- src/lib.rt:24:38
+enum-known-n : tie.Need-enum-known-n
+enum-known-n c = search needs
+
+-- src/lib.rt:18:1
+same-length : tie.Need-same-length
+same-length c = search needs
+
+-- src/lib.rt:18:1
+returns : tie.Need-returns
+returns c = number-is (c .before .before .before .before .write .ensures) (ap (λ r. toldWrite r .number) (c .enum-told .given .1))
+
+-- src/lib.rt:18:1
+same-length-2 : tie.Need-same-length-2
+same-length-2 c = search needs
+
+-- src/lib.rt:18:1
+returns-2 : tie.Need-returns-2
+returns-2 c = number-is (c .before .before .before .before .before .write .ensures) (ap (λ r. toldWrite r .number) (c .before .n .given .1))
+
+pub opl-signalling-write-spec : {M : Type 1} → statement M
+opl-signalling-write-spec =
+    tie.close
+    (tie.spec write-requires enum-told enum-known-n same-length returns same-length-2 returns-2)

@@ -1,0 +1,207 @@
+-- What the check of a sheet says, from what its tests found.
+-- Assumes nothing.
+use Prim.Native.Nat.{ℕ, _+_, _*_, _≤_, _<_}
+use mathlib.Core.Path.{_≡_, refl, sym, ap, ap₂, _∙_, subst}
+use mathlib.Core.Bool.{Bool, true, false, not}
+use mathlib.Core.List.{List, [], _∷_, map}
+use native.Mathlib.Decide.{ℕ-discrete}
+use native.Mathlib.Omega.{arith}
+use lib.Dec.{eqb}
+use lib.ListN.{length, getD, take, drop}
+use borrow.Author.Tests.{eq-eqb, ne-eqb, eqb-true, not-false}
+use Rattle.ground.specs.Outcome.{Outcome, Told, Is}
+use Rattle.ground.specs.Choice.{refuse, firstOf}
+use Rattle.ground.proofs.Outcome.{gave}
+use Rattle.ground.proofs.Choice.{choose-true, choose-false, either-false, AllClear, all-clear, first-drop, first-clear, first-found}
+use Rattle.bits.specs.Lists.{unpack}
+use Rattle.bits.specs.Places.{fieldAt, fieldsAt}
+use Rattle.description.specs.Rows.{total, cuts}
+use Rattle.description.specs.Fields.{table16, stsId, numTaps, numPipes}
+use Rattle.description.specs.Description.{Lists, ownSections, streamCount, sectionCount}
+use Rattle.description.specs.Rules.{size}
+use Rattle.description.specs.Sheet.{sheetEnd}
+use Rattle.description.specs.Tests.{versionFault, listsFault, anySet, widthFault, tapFault, idFault}
+use Rattle.description.specs.Form1.{pStated, sStated, dStated, headerFault, sheetLists, listsStated, topFault, countFault, sheetFaults, checked, writeRefusal, wordOf, writing}
+use Rattle.description.proofs.Tests.{lists-clear}
+use Rattle.signalling.specs.Filled.{Stated}
+use Rattle.signalling.proofs.Searches.{judged}
+use Rattle.signalling.proofs.Stated.{header-length, tops-are, version-said, judge-said, pipes-are}
+use Rattle.signalling.proofs.Surveys.{refusedBy, lists-found}
+use Rattle.signalling.proofs.Readings.{counted}
+
+-- ---- the tests after the header's, in a sheet whose header is right
+module _ (sh : List ℕ) (right : headerFault sh ≡ false) (p s d : ℕ) (ep : p ≡ pStated sh) (es : s ≡ sStated sh) (ed : d ≡ dStated sh) where
+  pub long-enough : length sh ≡ sheetEnd 12 p s d
+  long-enough = header-length sh right ∙ sym (ap₂ (λ (x y : ℕ). sheetEnd 12 x y d) ep es ∙ ap (sheetEnd 12 (pStated sh) (sStated sh)) ed)
+
+  pub lists≡ : sheetLists p s d (unpack sh) ≡ listsStated sh
+  unfolding listsStated
+  lists≡ = ap₂ (λ (x y : ℕ). sheetLists x y d (unpack sh)) ep es ∙ ap (λ (z : ℕ). sheetLists (pStated sh) (sStated sh) z (unpack sh)) ed
+
+  pub top-is : anySet (fieldsAt sh (168 + 48 * p + 16 * s) 16 4 d) ≡ topFault sh
+  unfolding topFault
+  top-is =
+      ap anySet (tops-are sh p s d long-enough)
+      ∙ ap₂ (λ (x y : ℕ). anySet (map (λ r. getD r 0 0) (Rattle.description.specs.Form1.sheetSections x y d (unpack sh)))) ep es
+      ∙ ap (λ (z : ℕ). anySet (map (λ r. getD r 0 0) (Rattle.description.specs.Form1.sheetSections (pStated sh) (sStated sh) z (unpack sh)))) ed
+
+  pub version-right : (x : ℕ) → x ≡ fieldAt sh 96 4 → x ≡ 0 → versionFault (listsStated sh .multiplex) ≡ false
+  unfolding versionFault
+  version-right x e h = ap not (eq-eqb _ _ (sym (e ∙ version-said sh p s d long-enough ∙ ap (λ (l : Lists). getD (l .multiplex) 0 0) lists≡) ∙ h))
+
+  pub version-wrong : (x : ℕ) → x ≡ fieldAt sh 96 4 → (x ≡ 0 → ⊥) → versionFault (listsStated sh .multiplex) ≡ true
+  unfolding versionFault
+  version-wrong x e h = ap not (ne-eqb _ _ (λ q. h (e ∙ version-said sh p s d long-enough ∙ ap (λ (l : Lists). getD (l .multiplex) 0 0) lists≡ ∙ q)))
+
+  pub count-is : countFault p s d (sheetLists p s d (unpack sh)) ≡ countFault (pStated sh) (sStated sh) (dStated sh) (listsStated sh)
+  count-is =
+      ap (countFault p s d) lists≡
+      ∙ ap₂ (λ (x y : ℕ). countFault x y d (listsStated sh)) ep es ∙ ap (λ (z : ℕ). countFault (pStated sh) (sStated sh) z (listsStated sh)) ed
+
+  pub size≡ : size p s d ≡ size (pStated sh) (sStated sh) (dStated sh)
+  size≡ = ap₂ (λ (x y : ℕ). size x y d) ep es ∙ ap (size (pStated sh) (sStated sh)) ed
+
+  -- where the counts are the records', d is what the pipes own
+  pub sections-own : countFault p s d (sheetLists p s d (unpack sh)) ≡ false → d ≡ total ownSections (cuts table16 p (drop 168 (unpack sh)))
+  unfolding countFault sectionCount
+  sections-own e =
+      let l : Lists = sheetLists p s d (unpack sh) in
+      let a = either-false (not (eqb p (numPipes (l .multiplex)))) _ e in
+      let b = either-false (not (eqb s (streamCount (l .pipes) (l .tail)))) _ (a .1) in
+      eqb-true d (total ownSections (l .pipes)) (not-false (eqb d (total ownSections (l .pipes))) (b .1)) ∙ ap (total ownSections) (sym (pipes-are sh p s d long-enough))
+
+  pub judge≡ : d ≡ total ownSections (cuts table16 p (drop 168 (unpack sh)))
+      → judged (widthFault (cuts table16 p (drop 168 (unpack sh)))) (tapFault (cuts table16 p (drop 168 (unpack sh))) (fieldsAt sh (168 + 48 * p + 16 * s + 4) 16 4 (total ownSections (cuts table16 p (drop 168 (unpack sh)))))) (idFault (fieldsAt sh (168 + 48 * p) 16 8 s))
+      ≡ firstOf (drop 5 (sheetFaults sh))
+  unfolding sheetFaults
+  judge≡ e =
+      judge-said sh p s d long-enough e
+      ∙ ap (λ (l : Lists). judged (widthFault (l .pipes)) (tapFault (l .pipes) (map numTaps (l .sections))) (idFault (map stsId (l .streams)))) lists≡
+
+-- ---- what they say together
+module _ (sh : List ℕ) where
+  after : (k : ℕ) → AllClear (take k (drop 1 (sheetFaults sh))) → (n : ℕ) → n ≡ firstOf (drop k (drop 1 (sheetFaults sh))) → n ≡ firstOf (drop 1 (sheetFaults sh))
+  after k c n e = e ∙ sym (first-drop k (drop 1 (sheetFaults sh)) c)
+
+  pub said-14 : topFault sh ≡ true → 14 ≡ firstOf (drop 1 (sheetFaults sh))
+  unfolding sheetFaults
+  said-14 e = after 0 tt 14 (sym (choose-true 14 _ e))
+
+  module _ (top : topFault sh ≡ false) where
+    pub said-6 : versionFault (listsStated sh .multiplex) ≡ true → 6 ≡ firstOf (drop 1 (sheetFaults sh))
+    unfolding sheetFaults
+    said-6 e = after 1 (top, tt) 6 (sym (choose-true 6 _ e))
+
+    module _ (version : versionFault (listsStated sh .multiplex) ≡ false) where
+      pub said-13 : countFault (pStated sh) (sStated sh) (dStated sh) (listsStated sh) ≡ true → 13 ≡ firstOf (drop 1 (sheetFaults sh))
+      unfolding sheetFaults
+      said-13 e = after 2 (top, (version, tt)) 13 (sym (choose-true 13 _ e))
+
+      module _ (count : countFault (pStated sh) (sStated sh) (dStated sh) (listsStated sh) ≡ false) where
+        pub said-7 : listsFault (pStated sh) (sStated sh) (dStated sh) ≡ true → 7 ≡ firstOf (drop 1 (sheetFaults sh))
+        unfolding sheetFaults
+        said-7 e = after 3 (top, (version, (count, tt))) 7 (sym (choose-true 7 _ e))
+
+        pub said-rest : listsFault (pStated sh) (sStated sh) (dStated sh) ≡ false → (n : ℕ) → n ≡ firstOf (drop 5 (sheetFaults sh)) → n ≡ firstOf (drop 1 (sheetFaults sh))
+        unfolding sheetFaults
+        said-rest e n f = after 4 (top, (version, (count, (e, tt)))) n f
+
+  -- ---- the check's answer
+  pub faulty : (n : ℕ) → n ≡ firstOf (sheetFaults sh) → (n ≡ 0 → ⊥) → refusedBy n ≡ checked sh
+  unfolding checked
+  faulty n e h =
+      sym (choose-false _ (refusedBy (firstOf (sheetFaults sh))) (ne-eqb (firstOf (sheetFaults sh)) 0 (λ z. h (e ∙ z))) ∙ ap refusedBy (sym e))
+
+  pub header-faulty : headerFault sh ≡ true → refusedBy 12 ≡ checked sh
+  unfolding sheetFaults
+  header-faulty e = faulty 12 (sym (choose-true 12 _ e)) (λ z. omega arith)
+
+  pub passed-header : headerFault sh ≡ false → firstOf (sheetFaults sh) ≡ firstOf (drop 1 (sheetFaults sh))
+  unfolding sheetFaults
+  passed-header e = choose-false 12 _ e
+
+  pub sound : firstOf (sheetFaults sh) ≡ 0 → (p s d : ℕ) → p ≡ pStated sh → s ≡ sStated sh → d ≡ dStated sh → counted p s d ≡ checked sh
+  unfolding checked
+  sound e p s d x y z =
+      sym (choose-true _ (refusedBy (firstOf (sheetFaults sh))) (eq-eqb (firstOf (sheetFaults sh)) 0 e)
+      ∙ (λ i. record { number = 0; values = sym x i ∷ sym y i ∷ sym z i ∷ [] }))
+
+-- ---- the check's answer taken apart
+said-sound : (sh : List ℕ) → firstOf (sheetFaults sh) ≡ 0 → checked sh ≡ counted (pStated sh) (sStated sh) (dStated sh)
+unfolding checked
+said-sound sh e = choose-true _ _ (eq-eqb (firstOf (sheetFaults sh)) 0 e)
+
+said-faulty : (sh : List ℕ) → (firstOf (sheetFaults sh) ≡ 0 → ⊥) → checked sh ≡ refusedBy (firstOf (sheetFaults sh))
+unfolding checked
+said-faulty sh h = choose-false _ _ (ne-eqb (firstOf (sheetFaults sh)) 0 h)
+
+values-length : {t u : Told} → t ≡ u → length (t .values) ≡ length (u .values)
+values-length e = ap (λ t. length (t .values)) e
+
+pub no-sheet : (sh : List ℕ) (n : ℕ) → refusedBy n ≡ checked sh → (firstOf (sheetFaults sh) ≡ 0 → ⊥) × (n ≡ firstOf (sheetFaults sh))
+no-sheet sh n e =
+    let h : firstOf (sheetFaults sh) ≡ 0 → ⊥ = λ z. absurd (omega (arith, values-length (e ∙ said-sound sh z))) in
+    (h, ap (λ t. t .number) (e ∙ said-faulty sh h))
+
+pub record Said (sh : List ℕ) (p s d : ℕ) : Type 0 where
+  pub clear : firstOf (sheetFaults sh) ≡ 0
+  pub pipes : p ≡ pStated sh
+  pub streams : s ≡ sStated sh
+  pub sections : d ≡ dStated sh
+
+pub said : (sh : List ℕ) (p s d : ℕ) → counted p s d ≡ checked sh → Said sh p s d
+said sh p s d e =
+    elim (ℕ-discrete (firstOf (sheetFaults sh)) 0) [
+      | yes z ↦ (
+          let f : counted p s d ≡ counted (pStated sh) (sStated sh) (dStated sh) = e ∙ said-sound sh z in
+          record {
+            clear = z;
+            pipes = ap (λ t. getD (t .values) 0 0) f;
+            streams = ap (λ t. getD (t .values) 1 0) f;
+            sections = ap (λ t. getD (t .values) 2 0) f;
+          })
+      | no h ↦ absurd (omega (arith, values-length (e ∙ said-faulty sh h)))
+    ]
+
+-- ---- the writer's outcome
+module _ (sh word : List ℕ) where
+  refused : (n : ℕ) → writeRefusal sh word ≡ n → (n ≡ 0 → ⊥) → Is (writing sh word) (refusedBy n) word
+  unfolding writing
+  refused n e h =
+      gave
+      (choose-false _ _ (ne-eqb (writeRefusal sh word) 0 (λ z. h (sym e ∙ z)))
+      ∙ ap (λ (k : ℕ). record { answer = refusedBy k; memory = word }) e)
+
+  pub word-denied : (length word ≡ 96 → ⊥) → Is (writing sh word) (refusedBy 1) word
+  unfolding writeRefusal
+  word-denied h =
+      refused 1 (first-found (refuse 1 (not (eqb (length word) 96))) (sheetFaults sh) (ap not (ne-eqb (length word) 96 h))) (λ z. omega arith)
+
+  module _ (n : length word ≡ 96) where
+    pub past-length : writeRefusal sh word ≡ firstOf (sheetFaults sh)
+    unfolding writeRefusal
+    past-length = first-clear (refuse 1 (not (eqb (length word) 96))) (sheetFaults sh) (ap not (eq-eqb (length word) 96 n))
+
+    pub denied : (m : ℕ) → refusedBy m ≡ checked sh → Is (writing sh word) (refusedBy m) word
+    denied m e = let h = no-sheet sh m e in refused m (past-length ∙ sym (h .1)) (λ z. h .0 (sym (h .1) ∙ z))
+
+    pub stated : (p s d : ℕ) → counted p s d ≡ checked sh → Stated sh p s d word
+    unfolding sheetFaults
+    stated p s d e =
+        let f = said sh p s d e in
+        let a = all-clear (sheetFaults sh) tt (f .clear) in
+        record {
+          sheet = long-enough sh (a .0) p s d (f .pipes) (f .streams) (f .sections);
+          fits = omega (arith, lists-clear (pStated sh) (sStated sh) (dStated sh) (a .1 .1 .1 .1 .0), size≡ sh (a .0) p s d (f .pipes) (f .streams) (f .sections));
+          room = n;
+        }
+
+    pub written : (p s d : ℕ) → counted p s d ≡ checked sh → (after : List ℕ) → after ≡ wordOf (sheetLists p s d (unpack sh))
+        → Is (writing sh word) (record { number = 0; values = 1 ∷ [] }) after
+    unfolding writing sheetFaults
+    written p s d e after g =
+        let f = said sh p s d e in
+        let a = all-clear (sheetFaults sh) tt (f .clear) in
+        gave
+        (choose-true _ _ (eq-eqb (writeRefusal sh word) 0 (past-length ∙ f .clear))
+        ∙ ap (λ (m : List ℕ). record { answer = record { number = 0; values = 1 ∷ [] }; memory = m }) (sym (g ∙ ap wordOf (lists≡ sh (a .0) p s d (f .pipes) (f .streams) (f .sections)))))

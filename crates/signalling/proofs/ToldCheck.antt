@@ -1,0 +1,18 @@
+-- What an answer tells is one-to-one: the number and the values determine the answer.
+-- Assumes nothing.
+use Prim.Native.Nat.{ℕ}
+use mathlib.Core.Path.{_≡_, refl, ap, _∙_}
+use mathlib.Core.List.{List, [], _∷_}
+use native.Mathlib.Omega.{arith}
+use lib.ListN.{length, getD}
+use Rattle.ground.specs.Outcome.{Told}
+use Rattle.signalling.specs.CheckAnswers.{toldCheck}
+use Rattle.signalling.specs.declared.Checking.{Checking}
+use Rattle.signalling.specs.declared.Checking.the-variants.{Accepted, Refused}
+
+pub check-one : (r r' : Checking) → toldCheck r ≡ toldCheck r' → r ≡ r'
+check-one (Accepted p s d) (Accepted p' s' d') e =
+    λ i. Accepted (ap (λ t. getD (t .values) 0 0) e i) (ap (λ t. getD (t .values) 1 0) e i) (ap (λ t. getD (t .values) 2 0) e i)
+check-one (Accepted p s d) (Refused n) e = absurd (omega (arith, ap (λ t. length (t .values)) e))
+check-one (Refused n) (Accepted p s d) e = absurd (omega (arith, ap (λ t. length (t .values)) e))
+check-one (Refused n) (Refused m) e = ap (λ t. Refused (t .number)) e
