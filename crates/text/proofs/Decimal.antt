@@ -3,6 +3,8 @@
 use Prim.Native.Nat.{ℕ, zero, suc, _+_, _*_, _/_, _%_, _^_, _≤_, _<_}
 use mathlib.Core.Path.{_≡_, refl, sym, ap, ap₂, _∙_}
 use mathlib.Core.List.{List, [], _∷_, _++_}
+use native.Mathlib.Nat.{pow-succ'}
+use native.Mathlib.Decide.{decLt}
 use native.Mathlib.Omega.{arith}
 use borrow.Author.Tests.{lt-ltb, le-ltb}
 use lib.Dec.{ltb}
@@ -43,3 +45,12 @@ length-one n h = ap length (decimal-one n h)
 
 pub length-more : (n : ℕ) → 10 ≤ n → length (decimal n) ≡ length (decimal (n / 10)) + 1
 length-more n h = ap length (decimal-more n h) ∙ length-append (decimal (n / 10)) ((48 + n % 10) ∷ [])
+
+-- a number below 10 ^ k has at most k digits
+pub digits-most : (k n : ℕ) → n < 10 ^ suc k → length (decimal n) ≤ suc k
+digits-most zero n h = omega (arith, length-one n h)
+digits-most (suc k) n h =
+    elim (decLt n 10) [
+      | yes l ↦ omega (arith, length-one n l)
+      | no l ↦ omega (arith, length-more n (omega arith), digits-most k (n / 10) (omega (arith, pow-succ' 10 (suc k))))
+    ]

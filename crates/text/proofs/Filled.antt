@@ -2,19 +2,16 @@
 -- Assumes nothing.
 use Prim.Native.Nat.{ℕ, suc, _+_, _≤_, _<_}
 use mathlib.Core.Path.{_≡_, refl, sym, ap, ap₂, _∙_, subst}
-use mathlib.Core.Bool.{Bool, true, false}
 use mathlib.Core.List.{List, [], _∷_, _++_, append-nil, append-assoc}
 use native.Mathlib.Nat.{add-zero}
 use native.Mathlib.Numerals.{add-one}
 use native.Mathlib.Omega.{arith}
 use borrow.Author.Tests.{eq-eqb, ne-eqb}
-use lib.Dec.{eqb}
 use lib.ListN.{length, getD, drop, length-append, drop-of-length-le}
 use lib.Seq.{drop-cons, drop-drop, getD-drop}
-use Rattle.ground.specs.Choice.{choose}
 use Rattle.ground.proofs.Choice.{choose-true, choose-false}
-use Rattle.text.specs.Words.{decimal, filled}
-use Rattle.text.specs.Put.{Put, signed, taken}
+use Rattle.text.specs.Words.{decimal, signed, taken, filled}
+use Rattle.text.specs.Put.{Put}
 use Rattle.text.proofs.Puts.{put-none, put-more}
 
 -- ---- one sign: a number where it is #, and else itself
@@ -50,22 +47,13 @@ passed-none o at text ns = record {
 }
 
 -- a sign more
-filled-sign : (c : ℕ) (text ns : List ℕ) → filled (c ∷ text) ns ≡ signed c (getD ns 0 0) ++ filled text (drop (taken c) ns)
-unfolding filled
-filled-sign c text ns = go (eqb c 35)
-  where
-    go : (b : Bool) → choose b (decimal (getD ns 0 0) ++ filled text (drop 1 ns)) (c ∷ filled text ns)
-        ≡ choose b (decimal (getD ns 0 0)) (c ∷ []) ++ filled text (drop (choose b 1 0) ns)
-    go true = refl
-    go false = refl
-
 filled-at : (text ns : List ℕ) (n i : ℕ) → i < length text
     → filled (drop i text) (drop n ns) ≡ signed (getD text i 0) (getD ns n 0) ++ filled (drop (i + 1) text) (drop (n + taken (getD text i 0)) ns)
+unfolding filled
 filled-at text ns n i h =
     let c : ℕ = getD text i 0 in
     let v : getD (drop n ns) 0 0 ≡ getD ns n 0 = getD-drop n ns 0 0 ∙ ap (λ (k : ℕ). getD ns k 0) (add-zero n) in
     ap (λ (t : List ℕ). filled t (drop n ns)) (drop-cons text i 0 h ∙ ap (λ (k : ℕ). c ∷ drop k text) (sym (add-one i)))
-    ∙ filled-sign c (drop (i + 1) text) (drop n ns)
     ∙ ap₂ (λ (x : ℕ) (l : List ℕ). signed c x ++ filled (drop (i + 1) text) l) v (drop-drop (taken c) n ns)
 
 module _ {o : List ℕ} {at : ℕ} {text ns new : List ℕ} {to n i : ℕ} (p : Passed o at text ns new to n i) (h : i < length text) where

@@ -41,27 +41,36 @@ pipe-numbers w at k {pattern} {width} {a} {b} {s} {d} h ep ew ea eb es ed =
     ap₂ (λ (i j : ℕ). k ∷ i ∷ j ∷ ownStreams (pipeAt w at) ∷ ownSections (pipeAt w at) ∷ []) x y
     ∙ ap₂ (λ (i j : ℕ). k ∷ pattern ∷ width ∷ i ∷ j ∷ []) u v
 
--- ---- the numbers of the multiplex
+-- ---- how long the stated lists are, and the numbers of the multiplex
 bare-length : (rs : List (List ℕ)) → length (bare rs) ≡ length rs
 bare-length [] = refl
 bare-length (r ∷ rs) = ap suc (bare-length rs)
 
+module _ (p s d : ℕ) (b : List ℕ) where
+  pub pipes-length : length (sheetLists p s d b .pipes) ≡ p
+  unfolding sheetLists
+  pipes-length = cuts-length table16 p (drop 168 b)
+
+  pub streams-length : length (sheetLists p s d b .streams) ≡ s
+  unfolding sheetLists
+  streams-length = cuts-length table18 s (drop (8 * streamsFrom 12 p) b)
+
+  pub sections-length : length (sheetLists p s d b .sections) ≡ d
+  unfolding sheetLists sheetSections
+  sections-length = bare-length (sheetSections p s d b) ∙ cuts-length (4 ∷ table19) d (drop (8 * sectionsFrom 12 p s) b)
+
 pub multiplex-numbers : (w : List ℕ) (p s d : ℕ) {operator frame : ℕ} → 21 ≤ length w → operator ≡ fieldAt w 112 8 → frame ≡ fieldAt w 122 22
     → (let l = sheetLists p s d (unpack w) in
     _≡_ {A = List ℕ} (operatorId (l .multiplex) ∷ frameIndex (l .multiplex) ∷ length (l .pipes) ∷ length (l .streams) ∷ length (l .sections) ∷ []) (operator ∷ frame ∷ p ∷ s ∷ d ∷ []))
-unfolding sheetLists sheetSections offset
+unfolding sheetLists offset
 multiplex-numbers w p s d {operator} {frame} h eo ef =
     let b = unpack w in
     let l = sheetLists p s d b in
     let x : operatorId (l .multiplex) ≡ operator = sym (eo ∙ row-field table15 3 96 w (lit< tt) (omega arith) (omega arith)) in
     let y : frameIndex (l .multiplex) ≡ frame = sym (ef ∙ row-field table15 6 96 w (lit< tt) (omega arith) (omega arith)) in
-    let u : length (l .pipes) ≡ p = cuts-length table16 p (drop 168 b) in
-    let v : length (l .streams) ≡ s = cuts-length table18 s (drop (8 * streamsFrom 12 p) b) in
-    let z : length (l .sections) ≡ d =
-    bare-length (sheetSections p s d b) ∙ cuts-length (4 ∷ table19) d (drop (8 * sectionsFrom 12 p s) b) in
     ap₂ (λ (i j : ℕ). i ∷ j ∷ length (l .pipes) ∷ length (l .streams) ∷ length (l .sections) ∷ []) x y
-    ∙ ap₂ (λ (i j : ℕ). operator ∷ frame ∷ i ∷ j ∷ length (l .sections) ∷ []) u v
-    ∙ ap (λ (i : ℕ). operator ∷ frame ∷ p ∷ s ∷ i ∷ []) z
+    ∙ ap₂ (λ (i j : ℕ). operator ∷ frame ∷ i ∷ j ∷ length (l .sections) ∷ []) (pipes-length p s d b) (streams-length p s d b)
+    ∙ ap (λ (i : ℕ). operator ∷ frame ∷ p ∷ s ∷ i ∷ []) (sections-length p s d b)
 
 -- ---- the loop over the payload pipes
 lines-append : (k : ℕ) (a b : List (List ℕ)) → pipeLines k (a ++ b) ≡ pipeLines k a ++ pipeLines (k + length a) b

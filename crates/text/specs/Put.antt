@@ -2,27 +2,17 @@
 -- Assumes nothing.
 use Prim.Native.Nat.{ℕ, _+_, _≤_}
 use mathlib.Core.Path.{_≡_}
-use mathlib.Core.List.{List, [], _∷_, _++_}
-use lib.Dec.{eqb}
+use mathlib.Core.List.{List, _++_}
 use lib.ListN.{length, take, drop}
-use Rattle.ground.specs.Choice.{choose}
 use Rattle.bits.specs.Lists.{unpack}
 use Rattle.description.specs.Sheet.{sheetEnd}
 use Rattle.description.specs.Form1.{sheetLists}
-use Rattle.text.specs.Words.{decimal}
 use Rattle.text.specs.Listing.{accepted}
 
 -- text put into a buffer from a place on: the place behind it, and the buffer afterwards
 pub record Put (old : List ℕ) (at : ℕ) (text new : List ℕ) (next : ℕ) : Type 0 where
   pub place : next ≡ at + length text
   pub memory : new ≡ take at old ++ text ++ drop (at + length text) old
-
--- what a sign of a text with numbers becomes, the next number being v, and how many numbers it takes
-abbrev pub signed : ℕ → ℕ → List ℕ
-signed c v = choose (eqb c 35) (decimal v) (c ∷ [])
-
-abbrev pub taken : ℕ → ℕ
-taken c = choose (eqb c 35) 1 0
 
 -- a sheet as long as its counts say, and room for its text
 pub record Stated (sh : List ℕ) (p s d : ℕ) (out : List ℕ) : Type 0 where

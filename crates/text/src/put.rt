@@ -2,8 +2,8 @@
 ghost use mathlib.Core.Path.{_≡_};
 ghost use Prim.Native.Nat.{_+_, _≤_};
 ghost use lib.ListN.{length, getD};
-ghost use Rattle.text.specs.Words.{decimal, filled};
-ghost use Rattle.text.specs.Put.{Put, signed, taken};
+ghost use Rattle.text.specs.Words.{decimal, signed, taken, filled};
+ghost use Rattle.text.specs.Put.{Put};
 
 // A number in decimal: the digits of its tenth, where there are any, and then its last digit.
 fn number(out: &mut [u8], at: usize, v: u32) -> usize

@@ -1,9 +1,7 @@
 -- `text::put::line` meets its contract: after i turns i signs are put. Assumes nothing.
-use Prim.Native.Nat.{ℕ, _-_}
-use mathlib.Core.Path.{_≡_, sym, ap, subst}
+use Prim.Native.Nat.{_-_}
 use borrow.Author.Needs.{needs}
-use lib.ListN.{length, getD}
-use Rattle.text.specs.Put.{signed}
+use lib.ListN.{length}
 use Rattle.text.proofs.Filled.{Passed, passed-none, sign-room, passed-more, passed-all}
 use Rattle.text.proofs.put.line.Statement.{statement}
 use Rattle.text.proofs.put.line.Tie as tie

@@ -50,9 +50,12 @@ pipe-requires c κs =
     let l = c .before .before in
     let s = l .before .before .before in
     let a = s .args in
-    let n = cuts-length table16 (a .p) (drop 168 (unpack (a .sheet .now))) in
-    (omega arith, search needs, line-room (cuts table16 (a .p) (drop 168 (unpack (a .sheet .now)))) (l .loop .i) (omega arith)
-    (pipeAt (a .sheet .now) (168 + 48 * l .loop .i)) (pipe-is (a .sheet .now) 168 (a .p) (l .loop .i) (c .before .loop-test .taken)) (l .loop .inv) (s .pre .2))
+    let n = cuts-length table16 (a .p) (drop 168 (unpack (a .sheet .now))) in (
+      omega arith,
+      search needs,
+      line-room (cuts table16 (a .p) (drop 168 (unpack (a .sheet .now)))) (l .loop .i) (omega arith)
+          (pipeAt (a .sheet .now) (168 + 48 * l .loop .i)) (pipe-is (a .sheet .now) 168 (a .p) (l .loop .i) (c .before .loop-test .taken)) (l .loop .inv) (s .pre .2),
+    )
 
 -- src/records.rt:51:9
 add-i : tie.Need-add-i Inv-loop μ-loop
