@@ -1,12 +1,13 @@
 -- What listing a sheet gives, from what its check says and from the text that was put.
 -- Assumes nothing.
 use Prim.Native.Nat.{ℕ, _≤_, _<_}
-use mathlib.Core.Path.{_≡_, sym, ap, ap₂, _∙_}
+use mathlib.Core.Path.{_≡_, sym, ap, ap₂, _∙_, subst}
 use mathlib.Core.List.{List, [], _∷_}
 use native.Mathlib.Omega.{arith}
 use borrow.Author.Tests.{eq-eqb, ne-eqb, lt-ltb, le-ltb}
+use lib.Dec.{eqb, ltb}
 use lib.ListN.{length}
-use Rattle.ground.specs.Outcome.{Told, Is}
+use Rattle.ground.specs.Outcome.{Outcome, Told, Is}
 use Rattle.ground.proofs.Outcome.{gave}
 use Rattle.ground.proofs.Choice.{choose-true, choose-false, all-clear}
 use Rattle.bits.specs.Lists.{unpack}
@@ -20,7 +21,7 @@ use Rattle.text.specs.Listing.{accepted, refused, listing}
 use Rattle.text.specs.Answers.{answered, listed}
 use Rattle.text.specs.Put.{Put, Stated}
 use Rattle.text.proofs.Puts.{put-front}
-use Rattle.text.proofs.Short.{stated-short}
+use Rattle.text.proofs.Short.{choose-most, stated-short, listing-short}
 
 module _ (sh out : List ℕ) where
   pub no-room : length out < 1024 → Is (listed sh out) (record { number = 1; values = [] }) out
@@ -86,3 +87,18 @@ module _ (sh out : List ℕ) where
           (choose-false _ _ (ne-eqb (checked sh .number) 0 not-clear)
           ∙ ap₂ (λ (j k : ℕ). record { number = j; values = j ∷ k ∷ [] }) number-is (ap length text-refused ∙ sym (f .0)))
           (f .1)
+
+-- ---- how long the text is that an answer tells of: its last value
+abbrev pub final : List ℕ → ℕ
+final [] = 0
+final (x ∷ []) = x
+final (x ∷ y ∷ l) = final (y ∷ l)
+
+answer-short : (sh out : List ℕ) → final (listed sh out .answer .values) ≤ 815
+unfolding listed answered
+answer-short sh out =
+    choose-most (λ (o : Outcome Told (List ℕ)). final (o .answer .values)) 815 (ltb (length out) 1024) _ _ (omega arith)
+    (choose-most (λ (t : Told). final (t .values)) 815 (eqb (checked sh .number) 0) _ _ (listing-short sh) (listing-short sh))
+
+pub told-short : (sh out : List ℕ) {out' : List ℕ} {t : Told} → Is (listed sh out) t out' → final (t .values) ≤ 815
+told-short sh out i = subst (λ (t : Told). final (t .values) ≤ 815) (sym (i .answer)) (answer-short sh out)

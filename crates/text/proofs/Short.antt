@@ -112,13 +112,13 @@ checked-number sh =
       | no e ↦ rw (ne-eqb (firstOf (sheetFaults sh)) 0 e)
     ]
 
+pub choose-most : {A : Type 0} (f : A → ℕ) (m : ℕ) (b : Bool) (x y : A) → f x ≤ m → f y ≤ m → f (choose b x y) ≤ m
+choose-most f m true x y h k = h
+choose-most f m false x y h k = k
+
 first-most : (m : ℕ) (l : List Fault) → Each (λ f. f .number ≤ m) l → firstOf l ≤ m
 first-most m [] h = omega arith
-first-most m (f ∷ l) h = go (f .found) (h .0) (first-most m l (h .1))
-  where
-    go : (b : Bool) → f .number ≤ m → firstOf l ≤ m → choose b (f .number) (firstOf l) ≤ m
-    go true x y = x
-    go false x y = y
+first-most m (f ∷ l) h = choose-most (λ (n : ℕ). n) m (f .found) (f .number) (firstOf l) (h .0) (first-most m l (h .1))
 
 -- the lists that a sheet states, where they are within 750 bits
 pub stated-short : (sh : List ℕ) (p s d : ℕ) → size p s d ≤ 750 → length (accepted (sheetLists p s d (unpack sh))) ≤ 815
