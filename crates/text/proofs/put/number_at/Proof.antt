@@ -1,0 +1,27 @@
+-- `text::put::number_at` meets its contract. Assumes nothing.
+use mathlib.Core.Path.{sym}
+use lib.ListN.{List·getD-eq-default}
+use borrow.Author.Needs.{needs}
+use Rattle.text.proofs.put.number_at.Statement.{statement}
+use Rattle.text.proofs.put.number_at.Tie as tie
+use Rattle.text.proofs.put.number_at.Reads as reads
+use Rattle.text.proofs.put.number_at.Lts as lts
+
+-- src/put.rt:27:16
+mul-result : tie.Need-mul-result
+mul-result c = search needs
+
+-- src/put.rt:27:16
+shared-slice-read-result : tie.Need-shared-slice-read-result
+shared-slice-read-result c = search needs
+
+-- src/put.rt:27:9
+returns : tie.Need-returns
+returns c = search needs
+
+-- src/put.rt:23:1
+returns-2 : tie.Need-returns-2
+returns-2 c = sym (List·getD-eq-default (c .before .args .numbers .now) 0 (search needs))
+
+pub number-at-spec : {M : Type 1} → statement M
+number-at-spec = tie.close (tie.spec mul-result shared-slice-read-result returns returns-2)

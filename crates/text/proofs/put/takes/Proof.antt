@@ -1,0 +1,19 @@
+-- `text::put::takes` meets its contract. Assumes nothing.
+use mathlib.Core.Path.{sym}
+use borrow.Author.Needs.{needs}
+use Rattle.text.proofs.Filled.{takes-one, takes-none}
+use Rattle.text.proofs.put.takes.Statement.{statement}
+use Rattle.text.proofs.put.takes.Tie as tie
+use Rattle.text.proofs.put.takes.Reads as reads
+use Rattle.text.proofs.put.takes.Lts as lts
+
+-- src/put.rt:49:9
+returns : tie.Need-returns
+returns c = (sym (takes-one (c .before .args .c) (c .if1 .taken)), search needs)
+
+-- src/put.rt:45:1
+returns-2 : tie.Need-returns-2
+returns-2 c = (sym (takes-none (c .before .args .c) (c .if1 .left)), search needs)
+
+pub takes-spec : {M : Type 1} → statement M
+takes-spec = tie.close (tie.spec returns returns-2)

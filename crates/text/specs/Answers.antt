@@ -1,0 +1,33 @@
+-- Document 01's number, and the values that go with it, for each case of what listing a sheet gives; and what is given.
+-- Assumes nothing.
+use Prim.Native.Nat.{ℕ}
+use mathlib.Core.List.{List, [], _∷_}
+use lib.Dec.{eqb, ltb}
+use lib.ListN.{length}
+use Rattle.ground.specs.Outcome.{Outcome, Told}
+use Rattle.ground.specs.Choice.{choose}
+use Rattle.description.specs.Word.{front}
+use Rattle.description.specs.Form1.{checked}
+use Rattle.text.specs.Listing.{listing}
+use Rattle.text.specs.declared.Listing.{Listing}
+use Rattle.text.specs.declared.Listing.the-variants.{Text, Refused, NoRoom}
+
+-- accepted: 0, and the text's length; refused: the refusal number, and with it that number and the text's length; no room: 1
+abbrev pub told : Listing → Told
+told (Text n) = record { number = 0; values = n ∷ [] }
+told (Refused number n) = record { number = number; values = number ∷ n ∷ [] }
+told NoRoom = record { number = 1; values = [] }
+
+-- the same of a sheet
+unfoldable pub answered : List ℕ → Told
+answered sh =
+    choose (eqb (checked sh .number) 0)
+    (record { number = 0; values = length (listing sh) ∷ [] })
+    (record { number = checked sh .number; values = checked sh .number ∷ length (listing sh) ∷ [] })
+
+-- the text stands at the front of the room, the bytes past it as before; a room below 1,024 bytes is refused with 1, and nothing is touched
+unfoldable pub listed : List ℕ → List ℕ → Outcome Told (List ℕ)
+listed sh out =
+    choose (ltb (length out) 1024)
+    (record { answer = record { number = 1; values = [] }; memory = out })
+    (record { answer = answered sh; memory = front (listing sh) out })

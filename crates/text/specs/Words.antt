@@ -1,0 +1,40 @@
+-- Text in ASCII: quoted words, numbers in decimal, and lines of both.
+-- Assumes nothing.
+use Prim.Native.Nat.{ℕ, zero, suc, _+_, _/_, _%_}
+use Prim.Native.Char.{code}
+use Prim.Native.String as string
+use Prim.Native.String.{String}
+use mathlib.Core.List.{List, [], _∷_, _++_}
+use lib.Dec.{eqb, ltb}
+use lib.ListN.{getD, drop}
+use Rattle.ground.specs.Choice.{choose}
+
+-- the bytes of a quoted text
+abbrev pub ascii : String → List ℕ
+ascii string.[] = []
+ascii (string._∷_ c s) = code c ∷ ascii s
+
+-- the digits of n, no zero before the first: those of n / 10, where there are any, and then n % 10; k counts the digits down
+unfoldable pub digits : ℕ → ℕ → List ℕ
+digits zero n = (48 + n) ∷ []
+digits (suc k) n = choose (ltb n 10) ((48 + n) ∷ []) (digits k (n / 10) ++ ((48 + n % 10) ∷ []))
+
+-- a number in decimal: n itself counts more digits than n has
+unfoldable pub decimal : ℕ → List ℕ
+decimal n = digits n n
+
+-- a sign of a text with numbers, the next number being n: the sign # (35) stands for it, and any other for itself
+abbrev pub signed : ℕ → ℕ → List ℕ
+signed c n = choose (eqb c 35) (decimal n) (c ∷ [])
+
+-- how many numbers it takes
+abbrev pub taken : ℕ → ℕ
+taken c = choose (eqb c 35) 1 0
+
+-- a text with numbers
+unfoldable pub filled : List ℕ → List ℕ → List ℕ
+filled [] ns = []
+filled (c ∷ text) ns = signed c (getD ns 0 0) ++ filled text (drop (taken c) ns)
+
+abbrev pub line : String → List ℕ → List ℕ
+line text ns = filled (ascii text) ns

@@ -1,0 +1,42 @@
+// The listing of a sheet, as text.
+mod put;
+mod records;
+
+use signalling::Checking;
+ghost use mathlib.Core.Path.{_≡_};
+ghost use Rattle.ground.specs.Outcome.{Is};
+ghost use Rattle.signalling.specs.CheckAnswers.{toldCheck};
+ghost use Rattle.text.specs.Answers.{told, listed};
+
+// What listing a sheet gives: the length of its text; the refusal number, and the length of the text that says it; or that there is no room.
+pub enum Listing {
+    Text(usize),
+    Refused { number: u8, n: usize },
+    NoRoom,
+}
+
+// The number of an answer, 0 where the sheet is accepted.
+fn refusal(answer: Checking) -> u8
+    ensures { λ r. ⌜ r ≡ toldCheck answer .number ⌝ }
+{
+    match answer {
+        Checking::Accepted { p: _, s: _, d: _ } => 0,
+        Checking::Refused(n) => n,
+    }
+}
+
+// Lists a sheet, of any length, into the front of a lent room of 1,024 bytes or more.
+pub fn list(sheet: &[u8], out: &mut [u8]) -> Listing
+    ensures { λ r. ⌜ Is (listed (now (sheet .entry)) (now (out .entry))) (told r) (now (out .exit)) ⌝ }
+{
+    if out.len() < 1024 {
+        return Listing::NoRoom;
+    }
+    let answer = signalling::check(sheet);
+    let Checking::Accepted { p, s, d } = answer else {
+        let number = refusal(answer);
+        let n = put::line(out, 0, b"refused #\n", &[number as u32]);
+        return Listing::Refused { number, n };
+    };
+    Listing::Text(records::list(sheet, p, s, d, out))
+}

@@ -1,0 +1,69 @@
+// Text put into a buffer from a place on: each function returns the place behind what it put.
+ghost use mathlib.Core.Path.{_≡_};
+ghost use Prim.Native.Nat.{_+_, _≤_};
+ghost use lib.ListN.{length, getD};
+ghost use Rattle.text.specs.Words.{decimal, signed, taken, filled};
+ghost use Rattle.text.specs.Put.{Put};
+
+// A number in decimal: the digits of its tenth, where there are any, and then its last digit.
+fn number(out: &mut [u8], at: usize, v: u32) -> usize
+    requires { ⌜ at + length (decimal v) ≤ length (now out) ⌝ }
+    ensures { λ r. ⌜ Put (now (out .entry)) at (decimal v) (now (out .exit)) r ⌝ }
+{
+    if v < 10 {
+        out[at] = 48 + v as u8;
+        return at + 1;
+    }
+    let to = number(out, at, v / 10);
+    out[to] = 48 + (v % 10) as u8;
+    to + 1
+}
+
+// The number at a place, and 0 past the end.
+fn number_at(numbers: &[u32], n: usize) -> u32
+    ensures { λ r. ⌜ r ≡ getD (now (numbers .entry)) n 0 ⌝ }
+{
+    if n < numbers.len() {
+        return numbers[n];
+    }
+    0
+}
+
+// One sign of a text: a number where it is #, and else itself.
+fn sign(out: &mut [u8], at: usize, c: u8, v: u32) -> usize
+    requires { ⌜ at + length (signed c v) ≤ length (now out) ⌝ }
+    ensures { λ r. ⌜ Put (now (out .entry)) at (signed c v) (now (out .exit)) r ⌝ }
+{
+    if c == b'#' {
+        return number(out, at, v);
+    }
+    out[at] = c;
+    at + 1
+}
+
+// How many numbers a sign takes.
+fn takes(c: u8) -> usize
+    ensures { λ r. ⌜ (r ≡ taken c) × (r ≤ 1) ⌝ }
+{
+    if c == b'#' {
+        return 1;
+    }
+    0
+}
+
+// A text with numbers: the sign # stands for the next number.
+pub fn line(out: &mut [u8], at: usize, text: &[u8], numbers: &[u32]) -> usize
+    requires { ⌜ at + length (filled (now text) (now numbers)) ≤ length (now out) ⌝ }
+    ensures { λ r. ⌜ Put (now (out .entry)) at (filled (now (text .entry)) (now (numbers .entry))) (now (out .exit)) r ⌝ }
+{
+    let mut to = at;
+    let mut n: usize = 0;
+    let mut i: usize = 0;
+    while i < text.len() {
+        let c = text[i];
+        to = sign(out, to, c, number_at(numbers, n));
+        n += takes(c);
+        i += 1;
+    }
+    to
+}
