@@ -54,10 +54,10 @@ pub fn units(pattern: usize) -> u8
 pub fn code_length(pattern: usize, n: usize) -> usize
     ensures { λ r. ⌜ r ≡ choose (ltb 12282 n) 0 (codeLength pattern n) ⌝ }
 {
-    if 12282 < n {
-        return 0;
+    if n <= 12282 {
+        return (n + 6) * units(pattern) as usize / 6;
     }
-    (n + 6) * units(pattern) as usize / 6
+    0
 }
 
 // The bits of the block that a length tells, 0 where there is no such block.

@@ -13,9 +13,6 @@ use Rattle.patterns.proofs.code_length.Reads as reads
 use Rattle.patterns.proofs.code_length.Lts as lts
 use Rattle.patterns.proofs.units.Reads as units-reads
 
-returns : tie.Need-returns
-returns c = sym (choose-true _ _ (lt-ltb _ _ (c .if1 .taken)))
-
 add-result : tie.Need-add-result
 add-result c = search needs
 
@@ -31,11 +28,14 @@ mul-result c =
     let b : c .units .result ≤ 255 = omega arith in
     omega (arith, mul-le-mul a b)
 
-returns-2 : tie.Need-returns-2
-returns-2 c =
+returns : tie.Need-returns
+returns c =
     let a = c .before .before .args in
-    ap (λ (x : ℕ). (a .n + 6) * x / 6) (c .units .ensures) ∙ sym (choose-false _ _ (le-ltb 12282 (a .n) (c .before .if1 .left)) ∙ length-units (a .pattern) (a .n))
+    ap (λ (x : ℕ). (a .n + 6) * x / 6) (c .units .ensures) ∙ sym (choose-false _ _ (le-ltb 12282 (a .n) (c .before .if1 .taken)) ∙ length-units (a .pattern) (a .n))
+
+returns-2 : tie.Need-returns-2
+returns-2 c = sym (choose-true _ _ (lt-ltb _ _ (c .if1 .left)))
 
 pub code-length-spec : {M : Type 1} → statement M
 code-length-spec =
-    tie.close (tie.spec returns add-result units-requires cast-result mul-result returns-2)
+    tie.close (tie.spec add-result units-requires cast-result mul-result returns returns-2)
