@@ -7,11 +7,9 @@ use Rattle.bits.proofs.bit.Reads as reads
 use Rattle.bits.proofs.bit.Lts as lts
 use Rattle.bits.proofs.bit_of.Reads as bit-of-reads
 
--- src/lib.rt:24:5
 bit-of-requires : tie.Need-bit-of-requires
 bit-of-requires c κs = search needs
 
--- src/lib.rt:21:1
 returns : tie.Need-returns
 unfolding bitAt
 returns c = c .bit-of .ensures

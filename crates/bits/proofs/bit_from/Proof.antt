@@ -11,23 +11,18 @@ use Rattle.bits.proofs.bit_from.Reads as reads
 use Rattle.bits.proofs.bit_from.Lts as lts
 use Rattle.bits.proofs.bit_of.Reads as bit-of-reads
 
--- src/lib.rt:31:13
 add-k : tie.Need-add-k
 add-k c = search needs
 
--- src/lib.rt:32:15
 add-bit-of : tie.Need-add-bit-of
 add-bit-of c = search needs
 
--- src/lib.rt:32:15
 add-bit-of-2 : tie.Need-add-bit-of-2
 add-bit-of-2 c = search needs
 
--- src/lib.rt:32:5
 bit-of-requires : tie.Need-bit-of-requires
 bit-of-requires c κs = search needs
 
--- src/lib.rt:28:1
 returns : tie.Need-returns
 unfolding bitAt
 returns c =

@@ -10,29 +10,23 @@ use Rattle.bits.proofs.bit_of.Tie as tie
 use Rattle.bits.proofs.bit_of.Reads as reads
 use Rattle.bits.proofs.bit_of.Lts as lts
 
--- src/lib.rt:15:9
 returns : tie.Need-returns
 returns c =
     let e : getD (c .before .args .s .now) (c .before .args .j) 0 ≡ 0 = List·getD-eq-default (c .before .args .s .now) 0 (omega (arith, c .if1 .taken)) in
     sym (ap (λ (x : ℕ). x / 2 ^ (7 - c .before .args .k) % 2) e ∙ ap (λ (x : ℕ). x % 2) (zero-div (2 ^ (7 - c .before .args .k))))
 
--- src/lib.rt:17:6
 shared-slice-read-result : tie.Need-shared-slice-read-result
 shared-slice-read-result c = search needs
 
--- src/lib.rt:17:15
 sub-result : tie.Need-sub-result
 sub-result c = search needs
 
--- src/lib.rt:17:15
 cast-result : tie.Need-cast-result
 cast-result c = search needs
 
--- src/lib.rt:17:6
 shr-result : tie.Need-shr-result
 shr-result c = search needs
 
--- src/lib.rt:10:1
 returns-2 : tie.Need-returns-2
 returns-2 c = search needs
 

@@ -19,43 +19,34 @@ Inv-loop s at n v₀ i₀ v i = (i ≤ n) × (v ≡ number (bitAt s) at i) × (v
 abbrev μ-loop : tie.MeasureT-loop
 μ-loop s at n v₀ i₀ v i = n - i
 
--- src/lib.rt:40:9
 returns : tie.Need-returns Inv-loop μ-loop
 unfolding fieldAt
 returns c = simp (lt-ltb 32 (c .before .before .args .n) (c .if1 .taken))
 
--- src/lib.rt:44:5
 loop-holds : tie.Need-loop-holds Inv-loop μ-loop
 unfolding number
 loop-holds c = search needs
 
--- src/lib.rt:45:13
 mul-v : tie.Need-mul-v Inv-loop μ-loop
 mul-v c = omega (arith, pow-mono {i = c .before .loop .i} {j = 31} (omega arith))
 
--- src/lib.rt:45:21
 bit-from-requires : tie.Need-bit-from-requires Inv-loop μ-loop
 bit-from-requires c κs = search needs
 
--- src/lib.rt:45:21
 cast-v : tie.Need-cast-v Inv-loop μ-loop
 cast-v c = search needs
 
--- src/lib.rt:45:13
 add-v : tie.Need-add-v Inv-loop μ-loop
 add-v c =
     let b : c .bit-from .result < 2 = rw (c .bit-from .ensures) (bit-lt _ _) in
     omega (arith, pow-mono {i = c .before .before .loop .i} {j = 31} (omega arith), b)
 
--- src/lib.rt:46:9
 add-i : tie.Need-add-i Inv-loop μ-loop
 add-i c = search needs
 
--- src/lib.rt:44:5
 loop-less : tie.Need-loop-less Inv-loop μ-loop
 loop-less c = search needs
 
--- src/lib.rt:44:5
 loop-again : tie.Need-loop-again Inv-loop μ-loop
 loop-again c =
     let a = c .before .before .before .before .before .args in
@@ -64,7 +55,6 @@ loop-again c =
     ap₂ (λ (x y : ℕ). x * 2 + y) (l .inv .1) (c .bit-from .ensures) ∙ sym (number-more (bitAt (a .s .now)) (a .at) (l .i)) in
     (omega arith, e, rw e (number-lt (bitAt (a .s .now)) (bit-lt (a .s .now)) (a .at) (l .i + 1)))
 
--- src/lib.rt:36:1
 returns-2 : tie.Need-returns-2 Inv-loop μ-loop
 returns-2 c =
     let a = c .before .before .before .before .args in

@@ -10,27 +10,21 @@ use Rattle.crc.proofs.clocked.Tie as tie
 use Rattle.crc.proofs.clocked.Reads as reads
 use Rattle.crc.proofs.clocked.Lts as lts
 
--- src/lib.rt:13:6
 mul-result : tie.Need-mul-result
 mul-result c = search needs
 
--- src/lib.rt:13:15
 mul-result-2 : tie.Need-mul-result-2
 mul-result-2 c = search needs
 
--- src/lib.rt:13:6
 rem-result : tie.Need-rem-result
 rem-result c = search needs
 
--- src/lib.rt:13:29
 div-result : tie.Need-div-result
 div-result c = search needs
 
--- src/lib.rt:13:29
 add-result : tie.Need-add-result
 add-result c = omega (arith, div-le-self (c .args .r) (c .args .top))
 
--- src/lib.rt:13:28
 mul-result-3 : tie.Need-mul-result-3
 mul-result-3 c =
     let a = c .args in
@@ -39,7 +33,6 @@ mul-result-3 c =
     one-bit : (x : ℕ) → x % 2 ≤ 1
     one-bit x = omega arith
 
--- src/lib.rt:9:1
 returns : tie.Need-returns
 unfolding clock
 returns c = refl

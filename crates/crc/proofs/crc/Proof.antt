@@ -23,30 +23,24 @@ Inv-loop word at n width poly top ones r₀ i₀ r i = (i ≤ n) × (r ≡ clock
 abbrev μ-loop : tie.MeasureT-loop
 μ-loop word at n width poly top ones r₀ i₀ r i = n - i
 
--- src/lib.rt:29:9
 top-of-requires : tie.Need-top-of-requires Inv-loop μ-loop
 top-of-requires c κs = search needs
 
--- src/lib.rt:30:16
 mul-ones : tie.Need-mul-ones Inv-loop μ-loop
 mul-ones c = search needs
 
--- src/lib.rt:30:16
 sub-ones : tie.Need-sub-ones Inv-loop μ-loop
 sub-ones c = search needs
 
--- src/lib.rt:33:5
 loop-holds : tie.Need-loop-holds Inv-loop μ-loop
 unfolding clocks tab
 loop-holds c =
     let a = c .before .before .args in
     (omega arith, refl, omega (arith, twice-top (a .width) (c .before .before .pre .0), pow-pos (a .width)))
 
--- src/lib.rt:34:35
 bit-from-requires : tie.Need-bit-from-requires Inv-loop μ-loop
 bit-from-requires c κs = search needs
 
--- src/lib.rt:34:9
 clocked-requires : tie.Need-clocked-requires Inv-loop μ-loop
 clocked-requires c κs =
     let o = c .before .before .before .before .before in
@@ -54,15 +48,12 @@ clocked-requires c κs =
     let b : c .bit-from .result < 2 = rw (c .bit-from .ensures) (bit-lt (o .args .word .now) (o .args .at + c .before .before .loop .i)) in
     (omega arith, omega arith, omega arith, omega arith, b)
 
--- src/lib.rt:35:9
 add-i : tie.Need-add-i Inv-loop μ-loop
 add-i c = search needs
 
--- src/lib.rt:33:5
 loop-less : tie.Need-loop-less Inv-loop μ-loop
 loop-less c = search needs
 
--- src/lib.rt:33:5
 loop-again : tie.Need-loop-again Inv-loop μ-loop
 loop-again c =
     let o = c .before .before .before .before .before .before in
@@ -78,13 +69,11 @@ loop-again c =
       rw (e, t .ensures .0) (clock-lt (a .width) (a .poly) (l .r) (f (a .at + l .i)) (o .pre .0) (o .pre .2)),
     )
 
--- src/lib.rt:37:5
 sub-result : tie.Need-sub-result Inv-loop μ-loop
 sub-result c =
     let o = c .before .before .before .before in
     omega (arith, twice-top (o .args .width) (o .pre .0))
 
--- src/lib.rt:25:1
 returns : tie.Need-returns Inv-loop μ-loop
 unfolding crcOf
 returns c =

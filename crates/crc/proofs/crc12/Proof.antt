@@ -15,15 +15,12 @@ use Rattle.crc.proofs.crc12.Reads as reads
 use Rattle.crc.proofs.crc12.Lts as lts
 use Rattle.crc.proofs.crc.Reads as crc-reads
 
--- src/lib.rt:51:6
 crc-requires : tie.Need-crc-requires
 crc-requires c κs = search needs
 
--- src/lib.rt:51:5
 cast-result : tie.Need-cast-result
 cast-result c = search needs
 
--- src/lib.rt:48:1
 returns : tie.Need-returns
 unfolding crc12Of
 returns c =

@@ -10,15 +10,12 @@ use Rattle.crc.proofs.top_of.Tie as tie
 use Rattle.crc.proofs.top_of.Reads as reads
 use Rattle.crc.proofs.top_of.Lts as lts
 
--- src/lib.rt:21:11
 sub-result : tie.Need-sub-result
 sub-result c = search needs
 
--- src/lib.rt:21:5
 shl-result : tie.Need-shl-result
 shl-result c = search needs
 
--- src/lib.rt:17:1
 returns : tie.Need-returns
 returns c =
     let e = top-is (c .args .width) (c .pre .0) (c .pre .1) in

@@ -15,39 +15,30 @@ use Rattle.io.proofs.read_full.Reads as read-full-reads
 use Rattle.io.proofs.write_all.Reads as write-all-reads
 use Rattle.text.proofs.list.Reads as list-reads
 
--- src/main.rt:10:41
 slice-aggregate-read-full : tie.Need-slice-aggregate-read-full
 slice-aggregate-read-full c = search needs
 
--- src/main.rt:10:9
 read-full-requires : tie.Need-read-full-requires
 read-full-requires c κs = search needs
 
--- src/main.rt:12:29
 array-share-prefix-sheet : tie.Need-array-share-prefix-sheet
 array-share-prefix-sheet c = search needs
 
--- src/main.rt:12:29
 slice-aggregate-list : tie.Need-slice-aggregate-list
 slice-aggregate-list c = search needs
 
--- src/main.rt:12:42
 slice-aggregate-list-2 : tie.Need-slice-aggregate-list-2
 slice-aggregate-list-2 c = search needs
 
--- src/main.rt:12:9
 list-requires : tie.Need-list-requires
 list-requires c κs = search needs
 
--- src/main.rt:13:23
 enum-known-answer : tie.Need-enum-known-answer
 enum-known-answer c = search needs
 
--- src/main.rt:15:46
 enum-known-answer-2 : tie.Need-enum-known-answer-2
 enum-known-answer-2 c = search needs
 
--- src/main.rt:16:42
 array-share-prefix-out : tie.Need-array-share-prefix-out
 array-share-prefix-out c =
     let f = c .before .answer2 .given in
@@ -55,7 +46,6 @@ array-share-prefix-out c =
     let h = subst (λ r. final (told r .values) ≤ 815) (f .1) (told-short _ _ (l .ensures)) in
     omega arith
 
--- src/main.rt:16:42
 slice-aggregate-write-all : tie.Need-slice-aggregate-write-all
 slice-aggregate-write-all c =
     let f = c .before .before .answer2 .given in
@@ -63,19 +53,15 @@ slice-aggregate-write-all c =
     let h = subst (λ r. final (told r .values) ≤ 815) (f .1) (told-short _ _ (l .ensures)) in
     sym (length-take-le (f .0 .1 .0) (l .last .1 .0) (omega arith))
 
--- src/main.rt:16:13
 write-all-requires : tie.Need-write-all-requires
 write-all-requires c κs = search needs
 
--- src/main.rt:18:9
 returns : tie.Need-returns
 returns c = search needs
 
--- src/main.rt:18:9
 returns-2 : tie.Need-returns-2
 returns-2 c = search needs
 
--- src/main.rt:20:34
 array-share-prefix-out-2 : tie.Need-array-share-prefix-out-2
 array-share-prefix-out-2 c =
     let f = c .before .answer .given in
@@ -83,7 +69,6 @@ array-share-prefix-out-2 c =
     let h = subst (λ r. final (told r .values) ≤ 815) (f .1) (told-short _ _ (l .ensures)) in
     omega arith
 
--- src/main.rt:20:34
 slice-aggregate-write-all-2 : tie.Need-slice-aggregate-write-all-2
 slice-aggregate-write-all-2 c =
     let f = c .before .before .answer .given in
@@ -91,11 +76,9 @@ slice-aggregate-write-all-2 c =
     let h = subst (λ r. final (told r .values) ≤ 815) (f .1) (told-short _ _ (l .ensures)) in
     sym (length-take-le (f .0 .0) (l .last .1 .0) (omega arith))
 
--- src/main.rt:20:5
 write-all-requires-2 : tie.Need-write-all-requires-2
 write-all-requires-2 c κs = search needs
 
--- src/main.rt:6:1
 returns-3 : tie.Need-returns-3
 returns-3 c = search needs
 

@@ -9,31 +9,24 @@ use Rattle.opl.proofs.opl_signalling_read.Reads as reads
 use Rattle.opl.proofs.opl_signalling_read.Lts as lts
 use Rattle.signalling.proofs.read.Reads as read-reads
 
--- src/lib.rt:20:11
 read-requires : tie.Need-read-requires
 read-requires c κs = search needs
 
--- src/lib.rt:21:63
 enum-told : tie.Need-enum-told
 enum-told c = search needs
 
--- src/lib.rt:22:38
 enum-known-n : tie.Need-enum-known-n
 enum-known-n c = search needs
 
--- src/lib.rt:16:1
 same-length : tie.Need-same-length
 same-length c = search needs
 
--- src/lib.rt:16:1
 returns : tie.Need-returns
 returns c = number-is (c .before .before .before .before .read .ensures) (ap (λ r. told r .number) (c .enum-told .given .1))
 
--- src/lib.rt:16:1
 same-length-2 : tie.Need-same-length-2
 same-length-2 c = search needs
 
--- src/lib.rt:16:1
 returns-2 : tie.Need-returns-2
 returns-2 c = number-is (c .before .before .before .before .before .read .ensures) (ap (λ r. told r .number) (c .before .n .given .1))
 

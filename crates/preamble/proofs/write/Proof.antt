@@ -19,19 +19,15 @@ Inv-loop out₀ text i₀ out i = (i ≤ 32) × (out ≡ over out₀ sof i)
 abbrev μ-loop : tie.MeasureT-loop
 μ-loop out₀ text i₀ out i = 32 - i
 
--- src/lib.rt:10:9
 returns : tie.Need-returns Inv-loop μ-loop
 returns c = refused (c .before .args .out .now) (λ e. omega (arith, c .if1 .taken))
 
--- src/lib.rt:14:5
 loop-holds : tie.Need-loop-holds Inv-loop μ-loop
 loop-holds c = (omega arith, refl)
 
--- src/lib.rt:15:18
 element-copy-out-out : tie.Need-element-copy-out-out Inv-loop μ-loop
 element-copy-out-out c = search needs
 
--- src/lib.rt:15:9
 slice-write-out : tie.Need-slice-write-out Inv-loop μ-loop
 unfolding sof
 slice-write-out c =
@@ -41,15 +37,12 @@ slice-write-out c =
     let e : length (o .loop .out) ≡ 32 = ap length (o .loop .inv .1) ∙ over-length out₀ sof (o .loop .i) (omega arith) (o .loop .inv .0) ∙ n in
     omega (arith, c .before .loop-test .taken)
 
--- src/lib.rt:16:9
 add-i : tie.Need-add-i Inv-loop μ-loop
 add-i c = search needs
 
--- src/lib.rt:14:5
 loop-less : tie.Need-loop-less Inv-loop μ-loop
 loop-less c = search needs
 
--- src/lib.rt:14:5
 loop-again : tie.Need-loop-again Inv-loop μ-loop
 unfolding sof
 loop-again c =
@@ -62,7 +55,6 @@ loop-again c =
           ∙ over-more out₀ sof (o .loop .i) 0 (omega arith) t,
     )
 
--- src/lib.rt:6:1
 same-length : tie.Need-same-length Inv-loop μ-loop
 unfolding sof
 same-length c =
@@ -71,7 +63,6 @@ same-length c =
     let n : length out₀ ≡ 32 = search needs in
     ap length (o .loop .inv .1) ∙ over-length out₀ sof (o .loop .i) (omega arith) (o .loop .inv .0)
 
--- src/lib.rt:6:1
 returns-2 : tie.Need-returns-2 Inv-loop μ-loop
 unfolding sof
 returns-2 c =

@@ -14,50 +14,42 @@ use Rattle.signalling.proofs.form1.byte_of.Reads as byte-of-reads
 use Rattle.signalling.proofs.form1.header_wrong.Reads as header-wrong-reads
 use Rattle.signalling.proofs.form1.judge.Reads as judge-reads
 
--- src/lib.rt:92:8
 header-wrong-requires : tie.Need-header-wrong-requires
 header-wrong-requires c κs = search needs
 
--- src/lib.rt:93:9
 returns : tie.Need-returns
 returns c = header-faulty (c .before .before .before .args .sheet .now) (sym (c .before .header-wrong .ensures) ∙ c .if1 .taken)
 
--- src/lib.rt:95:9
 byte-of-requires : tie.Need-byte-of-requires
 byte-of-requires c κs =
     let sh = c .before .before .before .args .sheet .now in
     let right : headerFault sh ≡ false = sym (c .before .header-wrong .ensures) ∙ c .if1 .left in
     omega (arith, right-header sh right .whole)
 
--- src/lib.rt:96:9
 byte-of-requires-2 : tie.Need-byte-of-requires-2
 byte-of-requires-2 c κs =
     let sh = c .before .before .before .before .args .sheet .now in
     let right : headerFault sh ≡ false = sym (c .before .before .header-wrong .ensures) ∙ c .before .if1 .left in
     omega (arith, right-header sh right .whole)
 
--- src/lib.rt:97:9
 byte-of-requires-3 : tie.Need-byte-of-requires-3
 byte-of-requires-3 c κs =
     let sh = c .before .before .before .before .before .args .sheet .now in
     let right : headerFault sh ≡ false = sym (c .before .before .before .header-wrong .ensures) ∙ c .before .before .if1 .left in
     omega (arith, right-header sh right .whole)
 
--- src/lib.rt:98:9
 judge-requires : tie.Need-judge-requires
 judge-requires c κs =
     let sh = c .before .before .before .before .before .before .args .sheet .now in
     let right : headerFault sh ≡ false = sym (c .before .before .before .before .header-wrong .ensures) ∙ c .before .before .before .if1 .left in
     (right, c .before .before .byte-of .ensures .0, c .before .byte-of2 .ensures .0, c .byte-of3 .ensures .0, c .before .before .byte-of .ensures .1, c .before .byte-of2 .ensures .1, c .byte-of3 .ensures .1)
 
--- src/lib.rt:100:9
 returns-2 : tie.Need-returns-2
 returns-2 c =
     let sh = c .before .before .before .before .before .before .before .before .args .sheet .now in
     let right : headerFault sh ≡ false = sym (c .before .before .before .before .before .before .header-wrong .ensures) ∙ c .before .before .before .before .before .if1 .left in
     faulty sh (c .before .judge .result) (c .before .judge .ensures ∙ sym (passed-header sh right)) (c .if2 .taken)
 
--- src/lib.rt:89:1
 returns-3 : tie.Need-returns-3
 returns-3 c =
     let sh = c .before .before .before .before .before .before .before .before .args .sheet .now in

@@ -24,30 +24,24 @@ use Rattle.signalling.proofs.faults.judge.Reads as judge-reads
 use Rattle.signalling.proofs.walk.any_set.Reads as any-set-reads
 use Rattle.signalling.proofs.walk.word_bits.Reads as word-bits-reads
 
--- src/lib.rt:28:8
 any-set-requires : tie.Need-any-set-requires
 any-set-requires c κs = search needs
 
--- src/lib.rt:29:9
 returns : tie.Need-returns
 returns c =
     let w = c .before .before .before .args .word .now in
     let n = c .before .before .before .pre in
     told-2 (unpack w) (sym (c .before .any-set .ensures ∙ spare-is w n) ∙ c .if1 .taken)
 
--- src/lib.rt:31:8
 word-bits-requires : tie.Need-word-bits-requires
 word-bits-requires c κs = search needs
 
--- src/lib.rt:31:49
 crc12-requires : tie.Need-crc12-requires
 crc12-requires c κs = search needs
 
--- src/lib.rt:31:49
 cast-if2 : tie.Need-cast-if2
 cast-if2 c = search needs
 
--- src/lib.rt:32:9
 returns-2 : tie.Need-returns-2
 returns-2 c =
     let w = c .before .before .before .before .before .before .args .word .now in
@@ -55,11 +49,9 @@ returns-2 c =
     let spare : spareFault (unpack w) ≡ false = sym (c .before .before .before .before .any-set .ensures ∙ spare-is w n) ∙ c .before .before .before .if1 .left in
     told-5 (unpack w) spare (crc-differs w n (c .before .before .word-bits .result) (c .before .crc12 .result) (c .before .before .word-bits .ensures) (c .before .crc12 .ensures) (c .if2 .taken))
 
--- src/lib.rt:34:8
 word-bits-requires-2 : tie.Need-word-bits-requires-2
 word-bits-requires-2 c κs = search needs
 
--- src/lib.rt:35:9
 returns-3 : tie.Need-returns-3
 returns-3 c =
     let w = c .before .before .before .before .before .before .before .before .args .word .now in
@@ -68,15 +60,12 @@ returns-3 c =
     let crc : crcFault (unpack w) ≡ false = crc-same w n (c .before .before .before .before .word-bits .result) (c .before .before .before .crc12 .result) (c .before .before .before .before .word-bits .ensures) (c .before .before .before .crc12 .ensures) (c .before .before .if2 .left) in
     told-6 (unpack w) spare crc (version-set w n (c .before .word-bits2 .result) (c .before .word-bits2 .ensures) (c .if3 .taken))
 
--- src/lib.rt:37:13
 word-bits-requires-3 : tie.Need-word-bits-requires-3
 word-bits-requires-3 c κs = search needs
 
--- src/lib.rt:37:13
 cast-p : tie.Need-cast-p
 cast-p c = search needs
 
--- src/lib.rt:40:9
 returns-4 : tie.Need-returns-4
 returns-4 c =
     let w = c .before .before .before .before .before .before .before .before .before .before .args .word .now in
@@ -88,55 +77,42 @@ returns-4 c =
     let ep : p ≡ pIn (unpack w) = c .before .word-bits3 .ensures ∙ p-is w n in
     told-7 (unpack w) spare crc version (lists-found (pIn (unpack w)) (sIn (unpack w)) (dIn (unpack w)) (omega (arith, c .if4 .taken)))
 
--- src/lib.rt:42:9
 count-requires : tie.Need-count-requires
 count-requires c κs = search needs
 
--- src/lib.rt:43:58
 mul-tail-owned : tie.Need-mul-tail-owned
 mul-tail-owned c = search needs
 
--- src/lib.rt:43:53
 add-tail-owned : tie.Need-add-tail-owned
 add-tail-owned c = search needs
 
--- src/lib.rt:43:21
 tail-owned-requires : tie.Need-tail-owned-requires
 tail-owned-requires c κs = search needs
 
--- src/lib.rt:43:13
 add-s : tie.Need-add-s
 add-s c = search needs
 
--- src/lib.rt:44:13
 add-d : tie.Need-add-d
 add-d c = search needs
 
--- src/lib.rt:45:20
 mul-end : tie.Need-mul-end
 mul-end c = search needs
 
--- src/lib.rt:45:15
 add-end : tie.Need-add-end
 add-end c = search needs
 
--- src/lib.rt:45:29
 mul-end-2 : tie.Need-mul-end-2
 mul-end-2 c = search needs
 
--- src/lib.rt:45:15
 add-end-2 : tie.Need-add-end-2
 add-end-2 c = search needs
 
--- src/lib.rt:45:38
 mul-end-3 : tie.Need-mul-end-3
 mul-end-3 c = search needs
 
--- src/lib.rt:45:15
 add-end-3 : tie.Need-add-end-3
 add-end-3 c = search needs
 
--- src/lib.rt:47:9
 returns-5 : tie.Need-returns-5
 returns-5 c =
     let w = c .before .before .before .before .before .before .before .before .before .before .before .before .before .before .before .args .word .now in
@@ -152,11 +128,9 @@ returns-5 c =
     let ed : d ≡ dIn (unpack w) = d-is w n p ep d (add-zero (c .before .before .before .before .count .result .d) ∙ c .before .before .before .before .count .ensures .1) in
     told-7 (unpack w) spare crc version (lists-found (pIn (unpack w)) (sIn (unpack w)) (dIn (unpack w)) (subst (λ (k : ℕ). 750 < k) (size-is w n p ep s d es ed) (omega (arith, c .if5 .taken))))
 
--- src/lib.rt:49:8
 any-set-requires-2 : tie.Need-any-set-requires-2
 any-set-requires-2 c κs = search needs
 
--- src/lib.rt:50:9
 returns-6 : tie.Need-returns-6
 returns-6 c =
     let w = c .before .before .before .before .before .before .before .before .before .before .before .before .before .before .before .before .before .args .word .now in
@@ -174,27 +148,21 @@ returns-6 c =
     let lists : listsFault (pIn (unpack w)) (sIn (unpack w)) (dIn (unpack w)) ≡ false = clear-lists (pIn (unpack w)) (sIn (unpack w)) (dIn (unpack w)) (subst (λ (k : ℕ). k ≤ 750) (size-is w n p ep s d es ed) fits) in
     told-8 (unpack w) spare crc version lists (sym (c .before .any-set2 .ensures ∙ padding-is w n p ep s d es ed) ∙ c .if6 .taken)
 
--- src/lib.rt:52:52
 mul-judge : tie.Need-mul-judge
 mul-judge c = search needs
 
--- src/lib.rt:52:47
 add-judge : tie.Need-add-judge
 add-judge c = search needs
 
--- src/lib.rt:52:69
 mul-judge-2 : tie.Need-mul-judge-2
 mul-judge-2 c = search needs
 
--- src/lib.rt:52:63
 sub-judge : tie.Need-sub-judge
 sub-judge c = search needs
 
--- src/lib.rt:52:9
 judge-requires : tie.Need-judge-requires
 judge-requires c κs = search needs
 
--- src/lib.rt:54:9
 returns-7 : tie.Need-returns-7
 returns-7 c =
     let w = c .before .before .before .before .before .before .before .before .before .before .before .before .before .before .before .before .before .before .before .args .word .now in
@@ -215,7 +183,6 @@ returns-7 c =
     let j : c .before .judge .result ≡ firstOf (drop 5 (wordFaults (unpack w))) = c .before .judge .ensures ∙ judge-is w n p ep s d es ed fits (72 + 48 * p + 16 * s + 12 * d - 12 * d) (omega arith) in
     told-at (unpack w) 5 passed (c .before .judge .result) j (c .if7 .taken)
 
--- src/lib.rt:24:1
 returns-8 : tie.Need-returns-8
 returns-8 c =
     let w = c .before .before .before .before .before .before .before .before .before .before .before .before .before .before .before .before .before .before .before .args .word .now in

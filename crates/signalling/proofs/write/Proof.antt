@@ -10,36 +10,29 @@ use Rattle.signalling.proofs.write.Lts as lts
 use Rattle.signalling.proofs.check.Reads as check-reads
 use Rattle.signalling.proofs.raster.lay.Reads as lay-reads
 
--- src/lib.rt:116:9
 returns : tie.Need-returns
 returns c =
     let a = c .before .before .before .args in
     word-denied (a .sheet .now) (a .word .now) (c .if1 .taken)
 
--- src/lib.rt:118:11
 check-requires : tie.Need-check-requires
 check-requires c κs = search needs
 
--- src/lib.rt:119:30
 enum-known-p : tie.Need-enum-known-p
 enum-known-p c = search needs
 
--- src/lib.rt:120:13
 lay-requires : tie.Need-lay-requires
 lay-requires c κs =
     let a = c .before .before .before .before .before .before .before .before .args in
     let f = c .before .before .p .given in
     stated (a .sheet .now) (a .word .now) (search needs) (f .0 .0) (f .0 .1 .0) (f .0 .1 .1 .0) (sym (ap toldCheck (f .1)) ∙ c .before .before .before .before .check .ensures)
 
--- src/lib.rt:123:27
 enum-known-n : tie.Need-enum-known-n
 enum-known-n c = search needs
 
--- src/lib.rt:112:1
 same-length : tie.Need-same-length
 same-length c = search needs
 
--- src/lib.rt:112:1
 returns-2 : tie.Need-returns-2
 returns-2 c =
     let a = c .before .before .before .before .before .before .before .before .before .before .before .args in
@@ -47,7 +40,6 @@ returns-2 c =
     written (a .sheet .now) (a .word .now) (search needs) (f .0 .0) (f .0 .1 .0) (f .0 .1 .1 .0)
     (sym (ap toldCheck (f .1)) ∙ c .before .before .before .before .before .before .before .check .ensures) _ (c .before .before .lay .ensures)
 
--- src/lib.rt:112:1
 returns-3 : tie.Need-returns-3
 returns-3 c =
     let a = c .before .before .before .before .before .before .before .args in

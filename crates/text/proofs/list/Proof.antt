@@ -16,50 +16,39 @@ use Rattle.text.proofs.put.line.Reads as line-reads
 use Rattle.text.proofs.records.list.Reads as list-reads
 use Rattle.text.proofs.refusal.Reads as refusal-reads
 
--- src/lib.rt:33:9
 returns : tie.Need-returns
 returns c =
     let a = c .before .before .before .args in
     no-room (a .sheet .now) (a .out .now) (c .if1 .taken)
 
--- src/lib.rt:35:9
 check-requires : tie.Need-check-requires
 check-requires c κs = search needs
 
--- src/lib.rt:36:30
 enum-known-answer : tie.Need-enum-known-answer
 enum-known-answer c = search needs
 
--- src/lib.rt:37:13
 enum-told : tie.Need-enum-told
 enum-told c = search needs
 
--- src/lib.rt:37:13
 refusal-requires : tie.Need-refusal-requires
 refusal-requires c κs = search needs
 
--- src/lib.rt:38:35
 slice-aggregate-line : tie.Need-slice-aggregate-line
 slice-aggregate-line c = search needs
 
--- src/lib.rt:38:53
 cast-t17 : tie.Need-cast-t17
 cast-t17 c = search needs
 
--- src/lib.rt:38:51
 slice-aggregate-line-2 : tie.Need-slice-aggregate-line-2
 slice-aggregate-line-2 c = search needs
 
--- src/lib.rt:38:13
 line-requires : tie.Need-line-requires
 unfolding refused
 line-requires c κs = omega (arith, refused-short (c .before .before .before .refusal .result) (search needs))
 
--- src/lib.rt:39:9
 same-length : tie.Need-same-length
 same-length c = search needs
 
--- src/lib.rt:39:9
 returns-2 : tie.Need-returns-2
 unfolding refused
 returns-2 c =
@@ -70,18 +59,15 @@ returns-2 c =
     let m = r .refusal .ensures ∙ ap (λ x. toldCheck x .number) (f .1) in
     refused-put (a .sheet .now) (a .out .now) (search needs) (r .refusal .result) (ap refusedBy m ∙ sym (ap toldCheck (f .1)) ∙ k .check .ensures) (c .before .before .line .ensures)
 
--- src/lib.rt:41:19
 list-requires : tie.Need-list-requires
 list-requires c κs =
     let f = c .before .before .answer .given in
     let a = c .before .before .before .before .before .before .before .before .args in
     stated (a .sheet .now) (a .out .now) (search needs) (f .0 .0) (f .0 .1 .0) (f .0 .1 .1 .0) (sym (ap toldCheck (f .1)) ∙ c .before .before .before .before .check .ensures)
 
--- src/lib.rt:29:1
 same-length-2 : tie.Need-same-length-2
 same-length-2 c = search needs
 
--- src/lib.rt:29:1
 returns-3 : tie.Need-returns-3
 returns-3 c =
     let f = c .before .before .before .before .before .answer .given in

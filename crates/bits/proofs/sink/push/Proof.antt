@@ -6,43 +6,34 @@ use Rattle.bits.proofs.sink.push.Tie as tie
 use Rattle.bits.proofs.sink.push.Reads as reads
 use Rattle.bits.proofs.sink.push.Lts as lts
 
--- src/sink.rt:19:9
 returns : tie.Need-returns
 returns c =
     let a = c .before .args in
     pushed-full (a .out .now) (a .s) (a .b) (c .if1 .taken)
 
--- src/sink.rt:21:16
 mul-next : tie.Need-mul-next
 mul-next c = search needs
 
--- src/sink.rt:21:16
 add-next : tie.Need-add-next
 add-next c = search needs
 
--- src/sink.rt:25:19
 add-t11 : tie.Need-add-t11
 add-t11 c = search needs
 
--- src/sink.rt:23:9
 returns-2 : tie.Need-returns-2
 returns-2 c =
     let o = c .before .before .before .before .before in
     pushed-part (o .args .out .now) (o .args .s) (o .args .b) (search needs) (search needs)
 
--- src/sink.rt:29:5
 slice-write-out : tie.Need-slice-write-out
 slice-write-out c = search needs
 
--- src/sink.rt:33:13
 add-t6 : tie.Need-add-t6
 add-t6 c = search needs
 
--- src/sink.rt:14:1
 same-length : tie.Need-same-length
 same-length c = search needs
 
--- src/sink.rt:14:1
 returns-3 : tie.Need-returns-3
 returns-3 c =
     let o = c .before .before .before .before in

@@ -22,34 +22,27 @@ Inv-loop out₀ b n t₀ i₀ out t i = (i ≤ n) × Is (pushedCopies out₀ t�
 abbrev μ-loop : tie.MeasureT-loop
 μ-loop out₀ b n t₀ i₀ out t i = n - i
 
--- src/sink.rt:43:5
 loop-holds : tie.Need-loop-holds Inv-loop μ-loop
 unfolding pushedCopies
 loop-holds c = (omega arith, record { answer = refl; memory = refl })
 
--- src/sink.rt:44:9
 push-requires : tie.Need-push-requires Inv-loop μ-loop
 push-requires c κs = search needs
 
--- src/sink.rt:45:9
 add-i : tie.Need-add-i Inv-loop μ-loop
 add-i c = search needs
 
--- src/sink.rt:43:5
 loop-less : tie.Need-loop-less Inv-loop μ-loop
 loop-less c = search needs
 
--- src/sink.rt:43:5
 loop-again : tie.Need-loop-again Inv-loop μ-loop
 loop-again c = (omega arith, copies-more _ _ _ _ _ _ _ _ (c .before .before .before .before .before .loop .inv .1) (c .before .before .push .ensures))
 
--- src/sink.rt:38:1
 same-length : tie.Need-same-length Inv-loop μ-loop
 same-length c =
     let a = c .before .before .before .args in
     ap length (c .before .loop .inv .1 .memory) ∙ copies-length (a .out .now) (a .s) (a .b) (c .before .loop .i)
 
--- src/sink.rt:38:1
 returns : tie.Need-returns Inv-loop μ-loop
 returns c =
     let a = c .before .before .before .args in

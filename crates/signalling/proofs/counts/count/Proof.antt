@@ -22,40 +22,31 @@ Inv-loop w at p s₀ d₀ i₀ s d i =
 abbrev μ-loop : tie.MeasureT-loop
 μ-loop w at p s₀ d₀ i₀ s d i = p - i
 
--- src/counts.rt:37:5
 loop-holds : tie.Need-loop-holds Inv-loop μ-loop
 unfolding total
 loop-holds c = search needs
 
--- src/counts.rt:38:33
 mul-owned : tie.Need-mul-owned Inv-loop μ-loop
 mul-owned c = search needs
 
--- src/counts.rt:38:28
 add-owned : tie.Need-add-owned Inv-loop μ-loop
 add-owned c = search needs
 
--- src/counts.rt:38:13
 owned-requires : tie.Need-owned-requires Inv-loop μ-loop
 owned-requires c κs = search needs
 
--- src/counts.rt:39:9
 add-s : tie.Need-add-s Inv-loop μ-loop
 add-s c = search needs
 
--- src/counts.rt:40:9
 add-d : tie.Need-add-d Inv-loop μ-loop
 add-d c = search needs
 
--- src/counts.rt:41:9
 add-i : tie.Need-add-i Inv-loop μ-loop
 add-i c = search needs
 
--- src/counts.rt:37:5
 loop-less : tie.Need-loop-less Inv-loop μ-loop
 loop-less c = search needs
 
--- src/counts.rt:37:5
 loop-again : tie.Need-loop-again Inv-loop μ-loop
 loop-again c =
     let o = c .before .before .before .before .before .before in
@@ -70,7 +61,6 @@ loop-again c =
       omega (arith, e .3),
     )
 
--- src/counts.rt:30:1
 returns : tie.Need-returns Inv-loop μ-loop
 returns c =
     let o = c .before .before .before in

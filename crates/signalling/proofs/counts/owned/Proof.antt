@@ -13,15 +13,12 @@ use Rattle.signalling.proofs.counts.owned.Reads as reads
 use Rattle.signalling.proofs.counts.owned.Lts as lts
 use Rattle.signalling.proofs.walk.word_bits.Reads as word-bits-reads
 
--- src/counts.rt:21:34
 add-word-bits : tie.Need-add-word-bits
 add-word-bits c = search needs
 
--- src/counts.rt:21:8
 word-bits-requires : tie.Need-word-bits-requires
 word-bits-requires c κs = search needs
 
--- src/counts.rt:22:9
 returns : tie.Need-returns
 returns c =
     let o = c .before .before .before in
@@ -29,39 +26,30 @@ returns c =
     let e = own-none f (sym (width-at (o .args .w .now) (o .args .at) (o .pre .0)) ∙ sym (c .before .word-bits .ensures) ∙ c .if1 .taken) in
     (sym (e .0), sym (e .1), search needs, search needs)
 
--- src/counts.rt:24:39
 add-word-bits-2 : tie.Need-add-word-bits-2
 add-word-bits-2 c = search needs
 
--- src/counts.rt:24:13
 word-bits-requires-2 : tie.Need-word-bits-requires-2
 word-bits-requires-2 c κs = search needs
 
--- src/counts.rt:24:13
 cast-s : tie.Need-cast-s
 cast-s c = search needs
 
--- src/counts.rt:25:39
 add-word-bits-3 : tie.Need-add-word-bits-3
 add-word-bits-3 c = search needs
 
--- src/counts.rt:25:13
 word-bits-requires-3 : tie.Need-word-bits-requires-3
 word-bits-requires-3 c κs = search needs
 
--- src/counts.rt:25:13
 cast-d : tie.Need-cast-d
 cast-d c = search needs
 
--- src/counts.rt:26:16
 add-t6 : tie.Need-add-t6
 add-t6 c = search needs
 
--- src/counts.rt:26:26
 add-t8 : tie.Need-add-t8
 add-t8 c = search needs
 
--- src/counts.rt:17:1
 returns-2 : tie.Need-returns-2
 returns-2 c =
     let o = c .before .before .before .before .before in

@@ -14,22 +14,18 @@ use Rattle.signalling.proofs.counts.tail_owned.Reads as reads
 use Rattle.signalling.proofs.counts.tail_owned.Lts as lts
 use Rattle.signalling.proofs.walk.word_bits.Reads as word-bits-reads
 
--- src/counts.rt:51:34
 add-word-bits : tie.Need-add-word-bits
 add-word-bits c = search needs
 
--- src/counts.rt:51:8
 word-bits-requires : tie.Need-word-bits-requires
 word-bits-requires c κs = search needs
 
--- src/counts.rt:52:9
 returns : tie.Need-returns
 returns c =
     let o = c .before .before .before in
     let t = cut table16b (drop (o .args .at) (unpack (o .args .w .now))) in
     (sym (tail-none t (sym (tail-at (o .args .w .now) (o .args .at) (o .pre .0)) ∙ sym (c .before .word-bits .ensures) ∙ c .if1 .taken)), search needs)
 
--- src/counts.rt:47:1
 returns-2 : tie.Need-returns-2
 returns-2 c =
     let o = c .before .before .before in

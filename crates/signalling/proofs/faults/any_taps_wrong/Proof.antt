@@ -38,36 +38,28 @@ Inv-loop w at p sections step from₀ i₀ from i =
 abbrev μ-loop : tie.MeasureT-loop
 μ-loop w at p sections step from₀ i₀ from i = p - i
 
--- src/faults.rt:74:5
 loop-holds : tie.Need-loop-holds Inv-loop μ-loop
 unfolding total
 loop-holds c = (omega arith, omega (arith, mul-zero (c .before .args .step)), omega arith, refl)
 
--- src/faults.rt:75:48
 mul-owned : tie.Need-mul-owned Inv-loop μ-loop
 mul-owned c = search needs
 
--- src/faults.rt:75:43
 add-owned : tie.Need-add-owned Inv-loop μ-loop
 add-owned c = search needs
 
--- src/faults.rt:75:13
 owned-requires : tie.Need-owned-requires Inv-loop μ-loop
 owned-requires c κs = search needs
 
--- src/faults.rt:76:31
 mul-taps-wrong : tie.Need-mul-taps-wrong Inv-loop μ-loop
 mul-taps-wrong c = search needs
 
--- src/faults.rt:76:26
 add-taps-wrong : tie.Need-add-taps-wrong Inv-loop μ-loop
 add-taps-wrong c = search needs
 
--- src/faults.rt:76:12
 taps-wrong-requires : tie.Need-taps-wrong-requires Inv-loop μ-loop
 taps-wrong-requires c κs = search needs
 
--- src/faults.rt:77:13
 returns : tie.Need-returns Inv-loop μ-loop
 returns c =
     let o = c .before .before .before .before .before .before in
@@ -82,27 +74,22 @@ returns c =
     ∙ ap (λ (b : Bool). either b (tapFault (drop (l .i + 1) rows) (drop (total ownSections (take (l .i + 1) rows)) ts)))
     (ap₂ (λ (x y : ℕ). tapsWrong (pipeAt w (a .at + 48 * l .i)) (fieldsAt w x (a .step) 4 y)) (sym (l .inv .1)) (sym (c .before .before .owned .ensures .1)) ∙ m))
 
--- src/faults.rt:79:17
 mul-from : tie.Need-mul-from Inv-loop μ-loop
 mul-from c =
     let o = c .before .before .before .before .before .before .before in
     omega (arith, mul-le-mul {n₁ = o .args .step} {m₁ = c .before .before .before .owned .result .d} {n₂ = 16} {m₂ = 8} (o .pre .2) (c .before .before .before .owned .ensures .3), mul-le-mul {n₁ = o .args .step} {m₁ = c .before .before .before .owned .result .s} {n₂ = 16} {m₂ = 32} (o .pre .2) (c .before .before .before .owned .ensures .2))
 
--- src/faults.rt:79:9
 add-from : tie.Need-add-from Inv-loop μ-loop
 add-from c =
     let o = c .before .before .before .before .before .before .before in
     omega (arith, mul-le-mul {n₁ = o .args .step} {m₁ = c .before .before .before .owned .result .d} {n₂ = 16} {m₂ = 8} (o .pre .2) (c .before .before .before .owned .ensures .3), mul-le-mul {n₁ = o .args .step} {m₁ = c .before .before .before .owned .result .s} {n₂ = 16} {m₂ = 32} (o .pre .2) (c .before .before .before .owned .ensures .2))
 
--- src/faults.rt:80:9
 add-i : tie.Need-add-i Inv-loop μ-loop
 add-i c = search needs
 
--- src/faults.rt:74:5
 loop-less : tie.Need-loop-less Inv-loop μ-loop
 loop-less c = search needs
 
--- src/faults.rt:74:5
 loop-again : tie.Need-loop-again Inv-loop μ-loop
 loop-again c =
     let o = c .before .before .before .before .before .before .before in
@@ -122,7 +109,6 @@ loop-again c =
           (ap₂ (λ (x y : ℕ). tapsWrong (pipeAt w (a .at + 48 * l .i)) (fieldsAt w x (a .step) 4 y)) (sym (l .inv .1)) (sym (own .ensures .1)) ∙ m),
     )
 
--- src/faults.rt:68:1
 returns-2 : tie.Need-returns-2 Inv-loop μ-loop
 unfolding tapFault
 returns-2 c =

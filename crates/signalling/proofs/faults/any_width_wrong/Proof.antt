@@ -30,24 +30,19 @@ Inv-loop w at p i₀ i = (i ≤ p) × (widthFault (cuts table16 p (drop at (unpa
 abbrev μ-loop : tie.MeasureT-loop
 μ-loop w at p i₀ i = p - i
 
--- src/faults.rt:36:5
 loop-holds : tie.Need-loop-holds Inv-loop μ-loop
 unfolding widthFault
 loop-holds c = (omega arith, refl)
 
--- src/faults.rt:37:32
 mul-width-wrong : tie.Need-mul-width-wrong Inv-loop μ-loop
 mul-width-wrong c = search needs
 
--- src/faults.rt:37:27
 add-width-wrong : tie.Need-add-width-wrong Inv-loop μ-loop
 add-width-wrong c = search needs
 
--- src/faults.rt:37:12
 width-wrong-requires : tie.Need-width-wrong-requires Inv-loop μ-loop
 width-wrong-requires c κs = search needs
 
--- src/faults.rt:38:13
 returns : tie.Need-returns Inv-loop μ-loop
 returns c =
     let o = c .before .before .before .before .before in
@@ -58,15 +53,12 @@ returns c =
     sym (any-found widthWrong rows [] (widthFault rows) (l .i) (l .inv .1) (rows-more (o .args .p) (l .i) b h)
     (ap widthWrong (pipe-is (o .args .w .now) (o .args .at) (o .args .p) (l .i) h) ∙ sym (c .before .width-wrong .ensures) ∙ c .if1 .taken))
 
--- src/faults.rt:40:9
 add-i : tie.Need-add-i Inv-loop μ-loop
 add-i c = search needs
 
--- src/faults.rt:36:5
 loop-less : tie.Need-loop-less Inv-loop μ-loop
 loop-less c = search needs
 
--- src/faults.rt:36:5
 loop-again : tie.Need-loop-again Inv-loop μ-loop
 loop-again c =
     let o = c .before .before .before .before .before in
@@ -79,7 +71,6 @@ loop-again c =
           (ap widthWrong (pipe-is (o .args .w .now) (o .args .at) (o .args .p) (l .i) h) ∙ sym (c .before .width-wrong .ensures) ∙ c .if1 .left),
     )
 
--- src/faults.rt:31:1
 returns-2 : tie.Need-returns-2 Inv-loop μ-loop
 returns-2 c =
     let o = c .before .before .before in

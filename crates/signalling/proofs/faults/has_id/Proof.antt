@@ -27,24 +27,19 @@ Inv-loop w at n from id j₀ j = (j ≤ n) × (member id (drop from (fieldsAt w 
 abbrev μ-loop : tie.MeasureT-loop
 μ-loop w at n from id j₀ j = n - j
 
--- src/faults.rt:94:5
 loop-holds : tie.Need-loop-holds Inv-loop μ-loop
 unfolding member
 loop-holds c = (search needs, refl)
 
--- src/faults.rt:95:43
 mul-word-bits : tie.Need-mul-word-bits Inv-loop μ-loop
 mul-word-bits c = search needs
 
--- src/faults.rt:95:38
 add-word-bits : tie.Need-add-word-bits Inv-loop μ-loop
 add-word-bits c = search needs
 
--- src/faults.rt:95:12
 word-bits-requires : tie.Need-word-bits-requires Inv-loop μ-loop
 word-bits-requires c κs = search needs
 
--- src/faults.rt:96:13
 returns : tie.Need-returns Inv-loop μ-loop
 returns c =
     let o = c .before .before .before .before .before in
@@ -55,15 +50,12 @@ returns c =
     sym (any-found (eqb (o .args .id)) ids 0 (member (o .args .id) (drop (o .args .from) ids)) (l .j) (l .inv .1)
     (omega (arith, fields-length (o .args .w .now) (o .args .at) 16 8 (o .args .n))) (eq-eqb (o .args .id) (getD ids (l .j) 0) (omega (arith, c .if1 .taken))))
 
--- src/faults.rt:98:9
 add-j : tie.Need-add-j Inv-loop μ-loop
 add-j c = search needs
 
--- src/faults.rt:94:5
 loop-less : tie.Need-loop-less Inv-loop μ-loop
 loop-less c = search needs
 
--- src/faults.rt:94:5
 loop-again : tie.Need-loop-again Inv-loop μ-loop
 loop-again c =
     let o = c .before .before .before .before .before in
@@ -76,7 +68,6 @@ loop-again c =
           (omega (arith, fields-length (o .args .w .now) (o .args .at) 16 8 (o .args .n))) (ne-eqb (o .args .id) (getD ids (l .j) 0) (λ q. c .if1 .left (sym e ∙ sym q))),
     )
 
--- src/faults.rt:89:1
 returns-2 : tie.Need-returns-2 Inv-loop μ-loop
 returns-2 c =
     let o = c .before .before .before in

@@ -28,31 +28,24 @@ Inv-loop w at n i₀ i = (i ≤ n) × (idFault (fieldsAt w at 16 8 n) ≡ idFaul
 abbrev μ-loop : tie.MeasureT-loop
 μ-loop w at n i₀ i = n - i
 
--- src/faults.rt:106:5
 loop-holds : tie.Need-loop-holds Inv-loop μ-loop
 loop-holds c = (omega arith, refl)
 
--- src/faults.rt:107:49
 mul-word-bits : tie.Need-mul-word-bits Inv-loop μ-loop
 mul-word-bits c = search needs
 
--- src/faults.rt:107:44
 add-word-bits : tie.Need-add-word-bits Inv-loop μ-loop
 add-word-bits c = search needs
 
--- src/faults.rt:107:13
 word-bits-requires : tie.Need-word-bits-requires Inv-loop μ-loop
 word-bits-requires c κs = search needs
 
--- src/faults.rt:108:29
 add-has-id : tie.Need-add-has-id Inv-loop μ-loop
 add-has-id c = search needs
 
--- src/faults.rt:108:12
 has-id-requires : tie.Need-has-id-requires Inv-loop μ-loop
 has-id-requires c κs = search needs
 
--- src/faults.rt:109:13
 returns : tie.Need-returns Inv-loop μ-loop
 returns c =
     let o = c .before .before .before .before .before .before in
@@ -64,15 +57,12 @@ returns c =
     sym (ids-step ids (l .i) (idFault ids) (omega (arith, fields-length (o .args .w .now) (o .args .at) 16 8 (o .args .n))) (l .inv .1)
     ∙ ap (λ (b : Bool). either b (idFault (drop (l .i + 1) ids))) m)
 
--- src/faults.rt:111:9
 add-i : tie.Need-add-i Inv-loop μ-loop
 add-i c = search needs
 
--- src/faults.rt:106:5
 loop-less : tie.Need-loop-less Inv-loop μ-loop
 loop-less c = search needs
 
--- src/faults.rt:106:5
 loop-again : tie.Need-loop-again Inv-loop μ-loop
 loop-again c =
     let o = c .before .before .before .before .before .before in
@@ -86,7 +76,6 @@ loop-again c =
           ∙ ap (λ (b : Bool). either b (idFault (drop (l .i + 1) ids))) m,
     )
 
--- src/faults.rt:101:1
 returns-2 : tie.Need-returns-2 Inv-loop μ-loop
 returns-2 c =
     let o = c .before .before .before in

@@ -18,19 +18,15 @@ use Rattle.signalling.proofs.faults.any_taps_wrong.Reads as any-taps-wr
 use Rattle.signalling.proofs.faults.any_width_wrong.Reads as any-width-wrong-reads
 use Rattle.signalling.proofs.faults.id_twice.Reads as id-twice-reads
 
--- src/faults.rt:129:9
 any-width-wrong-requires : tie.Need-any-width-wrong-requires
 any-width-wrong-requires c κs = search needs
 
--- src/faults.rt:130:9
 any-taps-wrong-requires : tie.Need-any-taps-wrong-requires
 any-taps-wrong-requires c κs = search needs
 
--- src/faults.rt:131:9
 id-twice-requires : tie.Need-id-twice-requires
 id-twice-requires c κs = search needs
 
--- src/faults.rt:133:9
 returns : tie.Need-returns
 returns c =
     let b = c .before .before .before in
@@ -39,20 +35,17 @@ returns c =
     let ts : Bool = tapFault rows (fieldsAt (a .w .now) (a .sections) (a .step) 4 (total ownSections rows)) in
     sym (judged-9 ts (idFault (fieldsAt (a .w .now) (a .streams) 16 8 (a .s))) (sym (b .any-width-wrong .ensures) ∙ c .if1 .taken))
 
--- src/faults.rt:136:9
 returns-2 : tie.Need-returns-2
 returns-2 c =
     let b = c .before .before .before .before in
     let a = b .before .before .args in
     sym (judged-10 (idFault (fieldsAt (a .w .now) (a .streams) 16 8 (a .s))) (sym (b .any-width-wrong .ensures) ∙ c .before .if1 .left) (sym (c .before .before .before .any-taps-wrong .ensures) ∙ c .if2 .taken))
 
--- src/faults.rt:139:9
 returns-3 : tie.Need-returns-3
 returns-3 c =
     let i = c .before .before .before in
     sym (judged-11 (sym (i .before .before .any-width-wrong .ensures) ∙ c .before .before .if1 .left) (sym (i .before .any-taps-wrong .ensures) ∙ c .before .if2 .left) (sym (i .id-twice .ensures) ∙ c .if3 .taken))
 
--- src/faults.rt:117:1
 returns-4 : tie.Need-returns-4
 returns-4 c =
     let i = c .before .before .before in

@@ -29,44 +29,34 @@ Inv-loop w at step n taps₀ k₀ taps k = (k ≤ n) × (taps ≡ total tapsOf (
 abbrev μ-loop : tie.MeasureT-loop
 μ-loop w at step n taps₀ k₀ taps k = n - k
 
--- src/faults.rt:52:5
 loop-holds : tie.Need-loop-holds Inv-loop μ-loop
 unfolding total
 loop-holds c = search needs
 
--- src/faults.rt:53:49
 mul-word-bits : tie.Need-mul-word-bits Inv-loop μ-loop
 mul-word-bits c = let o = c .before .before .before in omega (arith, mul-le-mul {n₁ = o .args .step} {m₁ = c .before .loop .k} {n₂ = 16} {m₂ = 8} (o .pre .1) (omega arith))
 
--- src/faults.rt:53:44
 add-word-bits : tie.Need-add-word-bits Inv-loop μ-loop
 add-word-bits c = let o = c .before .before .before in omega (arith, mul-le-mul {n₁ = o .args .step} {m₁ = c .before .loop .k} {n₂ = 16} {m₂ = 8} (o .pre .1) (omega arith))
 
--- src/faults.rt:53:18
 word-bits-requires : tie.Need-word-bits-requires Inv-loop μ-loop
 word-bits-requires c κs = search needs
 
--- src/faults.rt:53:18
 add-taps : tie.Need-add-taps Inv-loop μ-loop
 add-taps c = let o = c .before .before .before .before in omega (arith, c .word-bits .ensures, field-lt (o .args .w .now) (o .args .at + o .args .step * c .before .before .loop .k) 4 (omega arith))
 
--- src/faults.rt:53:17
 mul-taps : tie.Need-mul-taps Inv-loop μ-loop
 mul-taps c = let o = c .before .before .before .before in omega (arith, c .word-bits .ensures, field-lt (o .args .w .now) (o .args .at + o .args .step * c .before .before .loop .k) 4 (omega arith))
 
--- src/faults.rt:53:9
 add-taps-2 : tie.Need-add-taps-2 Inv-loop μ-loop
 add-taps-2 c = let o = c .before .before .before .before in omega (arith, c .word-bits .ensures, field-lt (o .args .w .now) (o .args .at + o .args .step * c .before .before .loop .k) 4 (omega arith))
 
--- src/faults.rt:54:9
 add-k : tie.Need-add-k Inv-loop μ-loop
 add-k c = search needs
 
--- src/faults.rt:52:5
 loop-less : tie.Need-loop-less Inv-loop μ-loop
 loop-less c = search needs
 
--- src/faults.rt:52:5
 loop-again : tie.Need-loop-again Inv-loop μ-loop
 loop-again c =
     let o = c .before .before .before .before in
@@ -79,7 +69,6 @@ loop-again c =
       omega (arith, c .word-bits .ensures),
     )
 
--- src/faults.rt:46:1
 returns : tie.Need-returns Inv-loop μ-loop
 returns c =
     let o = c .before .before .before in

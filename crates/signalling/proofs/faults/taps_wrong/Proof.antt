@@ -24,15 +24,12 @@ use Rattle.signalling.proofs.faults.taps_wrong.Lts as lts
 use Rattle.signalling.proofs.faults.taps_at.Reads as taps-at-reads
 use Rattle.signalling.proofs.walk.word_bits.Reads as word-bits-reads
 
--- src/faults.rt:61:34
 add-word-bits : tie.Need-add-word-bits
 add-word-bits c = search needs
 
--- src/faults.rt:61:8
 word-bits-requires : tie.Need-word-bits-requires
 word-bits-requires c κs = search needs
 
--- src/faults.rt:62:9
 returns : tie.Need-returns
 unfolding tapsWrong
 returns c =
@@ -41,11 +38,9 @@ returns c =
     let z : pipeWidth f ≡ 0 = sym (width-at (o .args .w .now) (o .args .at) (o .pre .0)) ∙ sym (c .before .word-bits .ensures) ∙ c .if1 .taken in
     sym (both-first (not (eqb (total tapsOf (fieldsAt (o .args .w .now) (o .args .sections) (o .args .step) 4 (o .args .d))) 32)) (ap not (eq-eqb (pipeWidth f) 0 z)))
 
--- src/faults.rt:64:5
 taps-at-requires : tie.Need-taps-at-requires
 taps-at-requires c κs = search needs
 
--- src/faults.rt:57:1
 returns-2 : tie.Need-returns-2
 unfolding tapsWrong
 returns-2 c =

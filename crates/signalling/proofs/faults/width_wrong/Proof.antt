@@ -24,42 +24,33 @@ use Rattle.signalling.proofs.faults.width_wrong.Lts as lts
 use Rattle.patterns.proofs.units.Reads as units-reads
 use Rattle.signalling.proofs.walk.word_bits.Reads as word-bits-reads
 
--- src/faults.rt:19:19
 word-bits-requires : tie.Need-word-bits-requires
 word-bits-requires c κs = search needs
 
--- src/faults.rt:19:19
 cast-pattern : tie.Need-cast-pattern
 cast-pattern c = search needs
 
--- src/faults.rt:21:9
 returns : tie.Need-returns
 returns c =
     let o = c .before .before .before in
     let e = c .before .word-bits .ensures ∙ pattern-at (o .args .w .now) (o .args .at) (o .pre .0) in
     sym (width-unknown (pipeAt (o .args .w .now) (o .args .at)) (omega (arith, c .if1 .taken)))
 
--- src/faults.rt:23:17
 units-requires : tie.Need-units-requires
 units-requires c κs = search needs
 
--- src/faults.rt:23:17
 cast-units : tie.Need-cast-units
 cast-units c = search needs
 
--- src/faults.rt:24:31
 add-word-bits : tie.Need-add-word-bits
 add-word-bits c = search needs
 
--- src/faults.rt:24:5
 word-bits-requires-2 : tie.Need-word-bits-requires-2
 word-bits-requires-2 c κs = search needs
 
--- src/faults.rt:24:5
 rem-result : tie.Need-rem-result
 rem-result c = omega (arith, c .before .units .ensures, units-some (c .before .before .before .word-bits .result) (omega (arith, c .before .before .if1 .left)))
 
--- src/faults.rt:15:1
 returns-2 : tie.Need-returns-2
 returns-2 c =
     let o = c .before .before .before .before .before in

@@ -7,15 +7,12 @@ use Rattle.signalling.proofs.form1.byte_of.Tie as tie
 use Rattle.signalling.proofs.form1.byte_of.Reads as reads
 use Rattle.signalling.proofs.form1.byte_of.Lts as lts
 
--- src/form1.rt:18:5
 shared-slice-read-result : tie.Need-shared-slice-read-result
 shared-slice-read-result c = search needs
 
--- src/form1.rt:18:5
 cast-result : tie.Need-cast-result
 cast-result c = omega (arith, c .shared-slice-known .given (c .before .args .i))
 
--- src/form1.rt:14:1
 returns : tie.Need-returns
 returns c = (refl, omega (arith, c .shared-slice-known .given (c .before .args .i)))
 

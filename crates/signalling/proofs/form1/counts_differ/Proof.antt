@@ -10,34 +10,27 @@ use Rattle.signalling.proofs.counts.count.Reads as count-reads
 use Rattle.signalling.proofs.counts.tail_owned.Reads as tail-owned-reads
 use Rattle.signalling.proofs.walk.word_bits.Reads as word-bits-reads
 
--- src/form1.rt:77:13
 word-bits-requires : tie.Need-word-bits-requires
 word-bits-requires c κs = search needs
 
--- src/form1.rt:77:13
 cast-if1 : tie.Need-cast-if1
 cast-if1 c = search needs
 
--- src/form1.rt:78:9
 returns : tie.Need-returns
 returns c =
     let o = c .before .before .before in
     let a = o .args in
     sym (pipes-differ (a .sheet .now) (a .p) (a .s) (a .d) (o .pre .0) (c .before .word-bits .result) (c .before .word-bits .ensures) (c .if1 .taken))
 
--- src/form1.rt:80:9
 count-requires : tie.Need-count-requires
 count-requires c κs = search needs
 
--- src/form1.rt:81:21
 tail-owned-requires : tie.Need-tail-owned-requires
 tail-owned-requires c κs = search needs
 
--- src/form1.rt:81:13
 add-if2 : tie.Need-add-if2
 add-if2 c = search needs
 
--- src/form1.rt:82:9
 returns-2 : tie.Need-returns-2
 returns-2 c =
     let w = c .before .before .before .before .before in
@@ -47,7 +40,6 @@ returns-2 c =
     sym (streams-differ (a .sheet .now) (a .p) (a .s) (a .d) (o .pre .0) (w .word-bits .result) (w .word-bits .ensures) (c .before .before .before .before .if1 .left)
     (n .result .s) (c .before .before .tail-owned .result) (n .ensures .0) (c .before .before .tail-owned .ensures .0) (c .if2 .taken))
 
--- src/form1.rt:73:1
 returns-3 : tie.Need-returns-3
 returns-3 c =
     let w = c .before .before .before .before .before .before in

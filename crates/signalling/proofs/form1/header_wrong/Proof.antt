@@ -16,62 +16,48 @@ use Rattle.signalling.proofs.form1.header_wrong.Lts as lts
 use Rattle.signalling.proofs.form1.byte_of.Reads as byte-of-reads
 use Rattle.signalling.proofs.form1.two_at.Reads as two-at-reads
 
--- src/form1.rt:34:9
 returns : tie.Need-returns
 returns c = sym (short (c .before .before .args .sheet .now) (c .if1 .taken))
 
--- src/form1.rt:36:28
 byte-of-requires : tie.Need-byte-of-requires
 byte-of-requires c κs = search needs
 
--- src/form1.rt:36:24
 mul-streams : tie.Need-mul-streams
 mul-streams c = search needs
 
--- src/form1.rt:36:19
 add-streams : tie.Need-add-streams
 add-streams c = search needs
 
--- src/form1.rt:37:34
 byte-of-requires-2 : tie.Need-byte-of-requires-2
 byte-of-requires-2 c κs = search needs
 
--- src/form1.rt:37:30
 mul-sections : tie.Need-mul-sections
 mul-sections c = search needs
 
--- src/form1.rt:37:20
 add-sections : tie.Need-add-sections
 add-sections c = search needs
 
--- src/form1.rt:38:30
 byte-of-requires-3 : tie.Need-byte-of-requires-3
 byte-of-requires-3 c κs = search needs
 
--- src/form1.rt:38:26
 mul-end : tie.Need-mul-end
 mul-end c = search needs
 
--- src/form1.rt:38:15
 add-end : tie.Need-add-end
 add-end c = search needs
 
--- src/form1.rt:39:8
 byte-of-requires-4 : tie.Need-byte-of-requires-4
 byte-of-requires-4 c κs = search needs
 
--- src/form1.rt:40:9
 returns-2 : tie.Need-returns-2
 returns-2 c =
     let sh = c .before .before .before .before .before .before .before .args .sheet .now in
     let long : 21 ≤ length sh = search needs in
     sym (fourth sh long (λ e. omega (arith, c .if2 .taken, c .before .byte-of4 .ensures .0)))
 
--- src/form1.rt:42:8
 two-at-requires : tie.Need-two-at-requires
 two-at-requires c κs = search needs
 
--- src/form1.rt:43:9
 returns-3 : tie.Need-returns-3
 returns-3 c =
     let sh = c .before .before .before .before .before .before .before .before .before .args .sheet .now in
@@ -79,11 +65,9 @@ returns-3 c =
     let zero : getD sh 3 0 ≡ 0 = sym (c .before .before .before .byte-of4 .ensures .0) ∙ c .before .before .if2 .left in
     sym (pipes-off sh long zero (λ e. omega (arith, c .if3 .taken, c .before .two-at .ensures)))
 
--- src/form1.rt:45:8
 two-at-requires-2 : tie.Need-two-at-requires-2
 two-at-requires-2 c κs = search needs
 
--- src/form1.rt:46:9
 returns-4 : tie.Need-returns-4
 returns-4 c =
     let sh = c .before .before .before .before .before .before .before .before .before .before .before .args .sheet .now in
@@ -95,11 +79,9 @@ returns-4 c =
     let ed : 21 + 6 * c .before .before .before .before .before .before .before .before .byte-of .result + 2 * c .before .before .before .before .before .before .before .byte-of2 .result + 2 * c .before .before .before .before .before .before .byte-of3 .result ≡ sheetEnd 12 (pStated sh) (sStated sh) (dStated sh) = ap₂ (λ (x y : ℕ). x + 2 * y) es (c .before .before .before .before .before .before .byte-of3 .ensures .0) in
     sym (streams-off sh long zero pipes (λ e. omega (arith, c .if4 .taken, c .before .two-at2 .ensures)))
 
--- src/form1.rt:48:8
 two-at-requires-3 : tie.Need-two-at-requires-3
 two-at-requires-3 c κs = search needs
 
--- src/form1.rt:49:9
 returns-5 : tie.Need-returns-5
 returns-5 c =
     let sh = c .before .before .before .before .before .before .before .before .before .before .before .before .before .args .sheet .now in
@@ -112,11 +94,9 @@ returns-5 c =
     let streams : twoAt sh 6 ≡ streamsFrom 12 (pStated sh) = sym (c .before .before .before .two-at2 .ensures) ∙ c .before .before .if4 .left ∙ ep in
     sym (sections-off sh long zero pipes streams (λ e. omega (arith, c .if5 .taken, c .before .two-at3 .ensures)))
 
--- src/form1.rt:51:8
 two-at-requires-4 : tie.Need-two-at-requires-4
 two-at-requires-4 c κs = search needs
 
--- src/form1.rt:52:9
 returns-6 : tie.Need-returns-6
 returns-6 c =
     let sh = c .before .before .before .before .before .before .before .before .before .before .before .before .before .before .before .args .sheet .now in
@@ -130,7 +110,6 @@ returns-6 c =
     let sections : twoAt sh 8 ≡ sectionsFrom 12 (pStated sh) (sStated sh) = sym (c .before .before .before .two-at3 .ensures) ∙ c .before .before .if5 .left ∙ es in
     sym (end-off sh long zero pipes streams sections (λ e. omega (arith, c .if6 .taken, c .before .two-at4 .ensures)))
 
--- src/form1.rt:30:1
 returns-7 : tie.Need-returns-7
 returns-7 c =
     let sh = c .before .before .before .before .before .before .before .before .before .before .before .before .before .before .before .args .sheet .now in

@@ -23,24 +23,19 @@ Inv-loop sheet at d k₀ k = (k ≤ d) × (anySet (fieldsAt sheet at 16 4 d) ≡
 abbrev μ-loop : tie.MeasureT-loop
 μ-loop sheet at d k₀ k = d - k
 
--- src/form1.rt:63:5
 loop-holds : tie.Need-loop-holds Inv-loop μ-loop
 unfolding anySet
 loop-holds c = (omega arith, refl)
 
--- src/form1.rt:64:47
 mul-word-bits : tie.Need-mul-word-bits Inv-loop μ-loop
 mul-word-bits c = search needs
 
--- src/form1.rt:64:42
 add-word-bits : tie.Need-add-word-bits Inv-loop μ-loop
 add-word-bits c = search needs
 
--- src/form1.rt:64:12
 word-bits-requires : tie.Need-word-bits-requires Inv-loop μ-loop
 word-bits-requires c κs = search needs
 
--- src/form1.rt:65:13
 returns : tie.Need-returns Inv-loop μ-loop
 returns c =
     let o = c .before .before .before .before .before in
@@ -51,15 +46,12 @@ returns c =
     sym (any-found isSet tops 0 (anySet tops) (l .k) (l .inv .1)
     (omega (arith, fields-length (o .args .sheet .now) (o .args .at) 16 4 (o .args .d))) (ap isSet e ∙ ap not (ne-eqb (c .before .word-bits .result) 0 (c .if1 .taken))))
 
--- src/form1.rt:67:9
 add-k : tie.Need-add-k Inv-loop μ-loop
 add-k c = search needs
 
--- src/form1.rt:63:5
 loop-less : tie.Need-loop-less Inv-loop μ-loop
 loop-less c = search needs
 
--- src/form1.rt:63:5
 loop-again : tie.Need-loop-again Inv-loop μ-loop
 loop-again c =
     let o = c .before .before .before .before .before in
@@ -72,7 +64,6 @@ loop-again c =
           (omega (arith, fields-length (o .args .sheet .now) (o .args .at) 16 4 (o .args .d))) (ap isSet e ∙ ap not (eq-eqb (c .before .word-bits .result) 0 (c .if1 .left))),
     )
 
--- src/form1.rt:58:1
 returns-2 : tie.Need-returns-2 Inv-loop μ-loop
 returns-2 c =
     let o = c .before .before .before in

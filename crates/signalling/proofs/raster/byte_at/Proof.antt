@@ -17,26 +17,21 @@ Inv-loop b at v₀ i₀ v i = (i ≤ 8) × (v ≡ num (take i (drop at b)))
 abbrev μ-loop : tie.MeasureT-loop
 μ-loop b at v₀ i₀ v i = 8 - i
 
--- src/raster.rt:56:5
 loop-holds : tie.Need-loop-holds Inv-loop μ-loop
 unfolding num
 loop-holds c = search needs
 
--- src/raster.rt:57:13
 mul-v : tie.Need-mul-v Inv-loop μ-loop
 mul-v c =
     let a = c .before .before .args in
     omega (arith, byte-lt 7 (c .before .loop .i) (a .b .now) (a .at) (search needs) (search needs))
 
--- src/raster.rt:57:23
 add-v : tie.Need-add-v Inv-loop μ-loop
 add-v c = search needs
 
--- src/raster.rt:57:21
 shared-slice-read-v : tie.Need-shared-slice-read-v Inv-loop μ-loop
 shared-slice-read-v c = search needs
 
--- src/raster.rt:57:13
 add-v-2 : tie.Need-add-v-2 Inv-loop μ-loop
 add-v-2 c =
     let o = c .before .before in
@@ -44,22 +39,18 @@ add-v-2 c =
     let i = o .loop .i in
     omega (arith, byte-lt 8 (i + 1) (a .b .now) (a .at) (search needs) (search needs), byte-more (a .b .now) (a .at) i (search needs))
 
--- src/raster.rt:58:9
 add-i : tie.Need-add-i Inv-loop μ-loop
 add-i c = search needs
 
--- src/raster.rt:56:5
 loop-less : tie.Need-loop-less Inv-loop μ-loop
 loop-less c = search needs
 
--- src/raster.rt:56:5
 loop-again : tie.Need-loop-again Inv-loop μ-loop
 loop-again c =
     let o = c .before .before in
     let a = o .before .args in
     (search needs, omega (arith, byte-more (a .b .now) (a .at) (o .loop .i) (search needs)))
 
--- src/raster.rt:50:1
 returns : tie.Need-returns Inv-loop μ-loop
 returns c =
     let e : c .before .loop .i ≡ 8 = search needs in

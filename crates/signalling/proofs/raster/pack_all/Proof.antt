@@ -19,31 +19,24 @@ Inv-loop b word₀ k₀ word k = (k ≤ length word₀) × (length word ≡ leng
 abbrev μ-loop : tie.MeasureT-loop
 μ-loop b word₀ k₀ word k = length word₀ - k
 
--- src/raster.rt:69:5
 loop-holds : tie.Need-loop-holds Inv-loop μ-loop
 loop-holds c = (omega arith, refl, refl)
 
--- src/raster.rt:70:30
 mul-byte-at : tie.Need-mul-byte-at Inv-loop μ-loop
 mul-byte-at c = search needs
 
--- src/raster.rt:70:19
 byte-at-requires : tie.Need-byte-at-requires Inv-loop μ-loop
 byte-at-requires c κs = search needs
 
--- src/raster.rt:70:9
 slice-write-word : tie.Need-slice-write-word Inv-loop μ-loop
 slice-write-word c = search needs
 
--- src/raster.rt:71:9
 add-k : tie.Need-add-k Inv-loop μ-loop
 add-k c = search needs
 
--- src/raster.rt:69:5
 loop-less : tie.Need-loop-less Inv-loop μ-loop
 loop-less c = search needs
 
--- src/raster.rt:69:5
 loop-again : tie.Need-loop-again Inv-loop μ-loop
 loop-again c =
     let a = c .before .before .before .before .before .args in
@@ -53,11 +46,9 @@ loop-again c =
       rw (l .inv .2) (pack-more (a .word .now) (a .b .now) (l .k) (c .byte-at .result) (search needs) (c .byte-at .ensures)),
     )
 
--- src/raster.rt:64:1
 same-length : tie.Need-same-length Inv-loop μ-loop
 same-length c = search needs
 
--- src/raster.rt:64:1
 returns : tie.Need-returns Inv-loop μ-loop
 returns c =
     let a = c .before .before .before .before .args in

@@ -18,47 +18,36 @@ Inv-loop out₀ to n v i₀ out i = (i ≤ n) × (length out ≡ length out₀) 
 abbrev μ-loop : tie.MeasureT-loop
 μ-loop out₀ to n v i₀ out i = n - i
 
--- src/raster.rt:43:5
 loop-holds : tie.Need-loop-holds Inv-loop μ-loop
 loop-holds c = (omega arith, refl, paste-zero (c .args .out .now) (c .args .to) (bits (c .args .n) (c .args .v)))
 
--- src/raster.rt:44:31
 sub-out : tie.Need-sub-out Inv-loop μ-loop
 sub-out c = search needs
 
--- src/raster.rt:44:31
 sub-out-2 : tie.Need-sub-out-2 Inv-loop μ-loop
 sub-out-2 c = search needs
 
--- src/raster.rt:44:31
 cast-out : tie.Need-cast-out Inv-loop μ-loop
 cast-out c = search needs
 
--- src/raster.rt:44:25
 shr-out : tie.Need-shr-out Inv-loop μ-loop
 shr-out c = search needs
 
--- src/raster.rt:44:23
 cast-out-2 : tie.Need-cast-out-2 Inv-loop μ-loop
 cast-out-2 c = search needs
 
--- src/raster.rt:44:13
 add-out : tie.Need-add-out Inv-loop μ-loop
 add-out c = search needs
 
--- src/raster.rt:44:9
 slice-write-out : tie.Need-slice-write-out Inv-loop μ-loop
 slice-write-out c = search needs
 
--- src/raster.rt:45:9
 add-i : tie.Need-add-i Inv-loop μ-loop
 add-i c = search needs
 
--- src/raster.rt:43:5
 loop-less : tie.Need-loop-less Inv-loop μ-loop
 loop-less c = search needs
 
--- src/raster.rt:43:5
 loop-again : tie.Need-loop-again Inv-loop μ-loop
 loop-again c =
     let a = c .before .before .args in
@@ -68,11 +57,9 @@ loop-again c =
       rw (l .inv .2) (put-more (a .out .now) (a .to) (a .n) (a .v) (l .i) (search needs) (search needs)),
     )
 
--- src/raster.rt:38:1
 same-length : tie.Need-same-length Inv-loop μ-loop
 same-length c = search needs
 
--- src/raster.rt:38:1
 returns : tie.Need-returns Inv-loop μ-loop
 returns c =
     let a = c .before .before .args in

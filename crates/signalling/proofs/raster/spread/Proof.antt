@@ -20,41 +20,32 @@ Inv-loop w at n out₀ to i₀ out i = (i ≤ n) × (length out ≡ length out�
 abbrev μ-loop : tie.MeasureT-loop
 μ-loop w at n out₀ to i₀ out i = n - i
 
--- src/raster.rt:19:5
 loop-holds : tie.Need-loop-holds Inv-loop μ-loop
 loop-holds c =
     let a = c .before .before .args in
     (omega arith, refl, paste-zero (a .out .now) (a .to) (take (a .n) (drop (a .at) (unpack (a .w .now)))))
 
--- src/raster.rt:20:50
 add-word-bits : tie.Need-add-word-bits Inv-loop μ-loop
 add-word-bits c = search needs
 
--- src/raster.rt:20:24
 word-bits-requires : tie.Need-word-bits-requires Inv-loop μ-loop
 word-bits-requires c κs = search needs
 
--- src/raster.rt:20:23
 cast-out : tie.Need-cast-out Inv-loop μ-loop
 cast-out c = search needs
 
--- src/raster.rt:20:13
 add-out : tie.Need-add-out Inv-loop μ-loop
 add-out c = search needs
 
--- src/raster.rt:20:9
 slice-write-out : tie.Need-slice-write-out Inv-loop μ-loop
 slice-write-out c = search needs
 
--- src/raster.rt:21:9
 add-i : tie.Need-add-i Inv-loop μ-loop
 add-i c = search needs
 
--- src/raster.rt:19:5
 loop-less : tie.Need-loop-less Inv-loop μ-loop
 loop-less c = search needs
 
--- src/raster.rt:19:5
 loop-again : tie.Need-loop-again Inv-loop μ-loop
 loop-again c =
     let o = c .before .before in
@@ -66,11 +57,9 @@ loop-again c =
           ∙ bit-more (a .out .now) (a .w .now) (a .at) (a .to) (a .n) i (c .word-bits .result) (search needs) (search needs) (search needs) (search needs),
     )
 
--- src/raster.rt:14:1
 same-length : tie.Need-same-length Inv-loop μ-loop
 same-length c = search needs
 
--- src/raster.rt:14:1
 returns : tie.Need-returns Inv-loop μ-loop
 returns c =
     let o = c .before in

@@ -20,45 +20,35 @@ Inv-loop w at d out₀ to k₀ out k = (k ≤ d) × (length out ≡ length out�
 abbrev μ-loop : tie.MeasureT-loop
 μ-loop w at d out₀ to k₀ out k = d - k
 
--- src/raster.rt:31:5
 loop-holds : tie.Need-loop-holds Inv-loop μ-loop
 loop-holds c =
     let a = c .before .before .args in
     (omega arith, refl, paste-zero (a .out .now) (a .to) (bareBits (a .d) (drop (a .at) (unpack (a .w .now)))))
 
--- src/raster.rt:32:24
 mul-spread : tie.Need-mul-spread Inv-loop μ-loop
 mul-spread c = search needs
 
--- src/raster.rt:32:19
 add-spread : tie.Need-add-spread Inv-loop μ-loop
 add-spread c = search needs
 
--- src/raster.rt:32:19
 add-spread-2 : tie.Need-add-spread-2 Inv-loop μ-loop
 add-spread-2 c = search needs
 
--- src/raster.rt:32:50
 mul-spread-2 : tie.Need-mul-spread-2 Inv-loop μ-loop
 mul-spread-2 c = search needs
 
--- src/raster.rt:32:45
 add-spread-3 : tie.Need-add-spread-3 Inv-loop μ-loop
 add-spread-3 c = search needs
 
--- src/raster.rt:32:9
 spread-requires : tie.Need-spread-requires Inv-loop μ-loop
 spread-requires c κs = search needs
 
--- src/raster.rt:33:9
 add-k : tie.Need-add-k Inv-loop μ-loop
 add-k c = search needs
 
--- src/raster.rt:31:5
 loop-less : tie.Need-loop-less Inv-loop μ-loop
 loop-less c = search needs
 
--- src/raster.rt:31:5
 loop-again : tie.Need-loop-again Inv-loop μ-loop
 loop-again c =
     let n = c .before .before in
@@ -72,11 +62,9 @@ loop-again c =
           ∙ section-more (a .out .now) (a .w .now) (a .at) (a .to) (a .d) k (search needs) (search needs) (search needs),
     )
 
--- src/raster.rt:26:1
 same-length : tie.Need-same-length Inv-loop μ-loop
 same-length c = search needs
 
--- src/raster.rt:26:1
 returns : tie.Need-returns Inv-loop μ-loop
 returns c =
     let o = c .before in

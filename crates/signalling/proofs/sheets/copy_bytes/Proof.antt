@@ -20,45 +20,35 @@ Inv-loop w at n out₀ to k₀ out k = (k ≤ n) × (length out ≡ length out�
 abbrev μ-loop : tie.MeasureT-loop
 μ-loop w at n out₀ to k₀ out k = n - k
 
--- src/sheets.rt:57:5
 loop-holds : tie.Need-loop-holds Inv-loop μ-loop
 loop-holds c =
     let a = c .before .before .args in
     (omega arith, refl, paste-zero (a .out .now) (a .to) (pack (a .n) (drop (a .at) (unpack (a .w .now)))))
 
--- src/sheets.rt:58:55
 mul-word-bits : tie.Need-mul-word-bits Inv-loop μ-loop
 mul-word-bits c = search needs
 
--- src/sheets.rt:58:50
 add-word-bits : tie.Need-add-word-bits Inv-loop μ-loop
 add-word-bits c = search needs
 
--- src/sheets.rt:58:24
 word-bits-requires : tie.Need-word-bits-requires Inv-loop μ-loop
 word-bits-requires c κs = search needs
 
--- src/sheets.rt:58:23
 cast-out : tie.Need-cast-out Inv-loop μ-loop
 cast-out c = search needs
 
--- src/sheets.rt:58:13
 add-out : tie.Need-add-out Inv-loop μ-loop
 add-out c = search needs
 
--- src/sheets.rt:58:9
 slice-write-out : tie.Need-slice-write-out Inv-loop μ-loop
 slice-write-out c = search needs
 
--- src/sheets.rt:59:9
 add-k : tie.Need-add-k Inv-loop μ-loop
 add-k c = search needs
 
--- src/sheets.rt:57:5
 loop-less : tie.Need-loop-less Inv-loop μ-loop
 loop-less c = search needs
 
--- src/sheets.rt:57:5
 loop-again : tie.Need-loop-again Inv-loop μ-loop
 loop-again c =
     let o = c .before .before in
@@ -70,11 +60,9 @@ loop-again c =
           ∙ byte-more (a .out .now) (a .w .now) (a .at) (a .to) (a .n) k (c .word-bits .result) (search needs) (search needs) (search needs) (search needs),
     )
 
--- src/sheets.rt:52:1
 same-length : tie.Need-same-length Inv-loop μ-loop
 same-length c = search needs
 
--- src/sheets.rt:52:1
 returns : tie.Need-returns Inv-loop μ-loop
 returns c =
     let o = c .before in

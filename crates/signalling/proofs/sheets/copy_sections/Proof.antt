@@ -20,69 +20,53 @@ Inv-loop w at d out₀ to k₀ out k = (k ≤ d) × (length out ≡ length out�
 abbrev μ-loop : tie.MeasureT-loop
 μ-loop w at d out₀ to k₀ out k = d - k
 
--- src/sheets.rt:69:5
 loop-holds : tie.Need-loop-holds Inv-loop μ-loop
 loop-holds c =
     let a = c .before .before .args in
     (omega arith, refl, paste-zero (a .out .now) (a .to) (sheetSections (a .d) (drop (a .at) (unpack (a .w .now)))))
 
--- src/sheets.rt:70:48
 mul-word-bits : tie.Need-mul-word-bits Inv-loop μ-loop
 mul-word-bits c = search needs
 
--- src/sheets.rt:70:43
 add-word-bits : tie.Need-add-word-bits Inv-loop μ-loop
 add-word-bits c = search needs
 
--- src/sheets.rt:70:13
 word-bits-requires : tie.Need-word-bits-requires Inv-loop μ-loop
 word-bits-requires c κs = search needs
 
--- src/sheets.rt:71:27
 cast-out : tie.Need-cast-out Inv-loop μ-loop
 cast-out c = search needs
 
--- src/sheets.rt:71:18
 mul-out : tie.Need-mul-out Inv-loop μ-loop
 mul-out c = search needs
 
--- src/sheets.rt:71:13
 add-out : tie.Need-add-out Inv-loop μ-loop
 add-out c = search needs
 
--- src/sheets.rt:71:9
 slice-write-out : tie.Need-slice-write-out Inv-loop μ-loop
 slice-write-out c = search needs
 
--- src/sheets.rt:72:31
 cast-out-2 : tie.Need-cast-out-2 Inv-loop μ-loop
 cast-out-2 c = search needs
 
--- src/sheets.rt:72:18
 mul-out-2 : tie.Need-mul-out-2 Inv-loop μ-loop
 mul-out-2 c = search needs
 
--- src/sheets.rt:72:13
 add-out-2 : tie.Need-add-out-2 Inv-loop μ-loop
 add-out-2 c = search needs
 
--- src/sheets.rt:72:13
 add-out-3 : tie.Need-add-out-3 Inv-loop μ-loop
 add-out-3 c = search needs
 
--- src/sheets.rt:72:9
 slice-write-out-2 : tie.Need-slice-write-out-2 Inv-loop μ-loop
 slice-write-out-2 c = simp length-set (omega arith)
 
--- src/sheets.rt:73:9
 add-k : tie.Need-add-k Inv-loop μ-loop
 add-k c = search needs
 
--- src/sheets.rt:69:5
 loop-less : tie.Need-loop-less Inv-loop μ-loop
 loop-less c = search needs
 
--- src/sheets.rt:69:5
 loop-again : tie.Need-loop-again Inv-loop μ-loop
 loop-again c =
     let o = c .before .before in
@@ -95,11 +79,9 @@ loop-again c =
           ∙ section-more (a .out .now) (a .w .now) (a .at) (a .to) (a .d) k v (search needs) (search needs) (search needs) (search needs),
     )
 
--- src/sheets.rt:64:1
 same-length : tie.Need-same-length Inv-loop μ-loop
 same-length c = search needs
 
--- src/sheets.rt:64:1
 returns : tie.Need-returns Inv-loop μ-loop
 returns c =
     let o = c .before in

@@ -15,99 +15,75 @@ use Rattle.signalling.proofs.sheets.copy_bytes.Reads as copy-bytes-read
 use Rattle.signalling.proofs.sheets.copy_sections.Reads as copy-sections-reads
 use Rattle.signalling.proofs.sheets.put_header.Reads as put-header-reads
 
--- src/sheets.rt:82:5
 put-header-requires : tie.Need-put-header-requires
 put-header-requires c κs = search needs
 
--- src/sheets.rt:83:5
 copy-bytes-requires : tie.Need-copy-bytes-requires
 copy-bytes-requires c κs = search needs
 
--- src/sheets.rt:84:27
 mul-copy-bytes : tie.Need-mul-copy-bytes
 mul-copy-bytes c = search needs
 
--- src/sheets.rt:84:22
 add-copy-bytes : tie.Need-add-copy-bytes
 add-copy-bytes c = search needs
 
--- src/sheets.rt:84:5
 copy-bytes-requires-2 : tie.Need-copy-bytes-requires-2
 copy-bytes-requires-2 c κs = search needs
 
--- src/sheets.rt:85:26
 mul-copy-bytes-2 : tie.Need-mul-copy-bytes-2
 mul-copy-bytes-2 c = search needs
 
--- src/sheets.rt:85:5
 copy-bytes-requires-3 : tie.Need-copy-bytes-requires-3
 copy-bytes-requires-3 c κs = search needs
 
--- src/sheets.rt:86:27
 mul-copy-bytes-3 : tie.Need-mul-copy-bytes-3
 mul-copy-bytes-3 c = search needs
 
--- src/sheets.rt:86:22
 add-copy-bytes-2 : tie.Need-add-copy-bytes-2
 add-copy-bytes-2 c = search needs
 
--- src/sheets.rt:86:35
 mul-copy-bytes-4 : tie.Need-mul-copy-bytes-4
 mul-copy-bytes-4 c = search needs
 
--- src/sheets.rt:86:52
 mul-copy-bytes-5 : tie.Need-mul-copy-bytes-5
 mul-copy-bytes-5 c = search needs
 
--- src/sheets.rt:86:47
 add-copy-bytes-3 : tie.Need-add-copy-bytes-3
 add-copy-bytes-3 c = search needs
 
--- src/sheets.rt:86:5
 copy-bytes-requires-4 : tie.Need-copy-bytes-requires-4
 copy-bytes-requires-4 c κs = search needs
 
--- src/sheets.rt:87:30
 mul-copy-sections : tie.Need-mul-copy-sections
 mul-copy-sections c = search needs
 
--- src/sheets.rt:87:25
 add-copy-sections : tie.Need-add-copy-sections
 add-copy-sections c = search needs
 
--- src/sheets.rt:87:39
 mul-copy-sections-2 : tie.Need-mul-copy-sections-2
 mul-copy-sections-2 c = search needs
 
--- src/sheets.rt:87:25
 add-copy-sections-2 : tie.Need-add-copy-sections-2
 add-copy-sections-2 c = search needs
 
--- src/sheets.rt:87:60
 mul-copy-sections-3 : tie.Need-mul-copy-sections-3
 mul-copy-sections-3 c = search needs
 
--- src/sheets.rt:87:55
 add-copy-sections-3 : tie.Need-add-copy-sections-3
 add-copy-sections-3 c = search needs
 
--- src/sheets.rt:87:68
 mul-copy-sections-4 : tie.Need-mul-copy-sections-4
 mul-copy-sections-4 c = search needs
 
--- src/sheets.rt:87:55
 add-copy-sections-4 : tie.Need-add-copy-sections-4
 add-copy-sections-4 c = search needs
 
--- src/sheets.rt:87:5
 copy-sections-requires : tie.Need-copy-sections-requires
 copy-sections-requires c κs = search needs
 
--- src/sheets.rt:78:1
 same-length : tie.Need-same-length
 same-length c = search needs
 
--- src/sheets.rt:78:1
 returns : tie.Need-returns
 returns c =
     let n6 = c .before .before in

@@ -9,67 +9,51 @@ use Rattle.signalling.proofs.sheets.header_of.Tie as tie
 use Rattle.signalling.proofs.sheets.header_of.Reads as reads
 use Rattle.signalling.proofs.sheets.header_of.Lts as lts
 
--- src/sheets.rt:19:24
 mul-streams : tie.Need-mul-streams
 mul-streams c = search needs
 
--- src/sheets.rt:19:19
 add-streams : tie.Need-add-streams
 add-streams c = search needs
 
--- src/sheets.rt:20:30
 mul-sections : tie.Need-mul-sections
 mul-sections c = search needs
 
--- src/sheets.rt:20:20
 add-sections : tie.Need-add-sections
 add-sections c = search needs
 
--- src/sheets.rt:21:26
 mul-end : tie.Need-mul-end
 mul-end c = search needs
 
--- src/sheets.rt:21:15
 add-end : tie.Need-add-end
 add-end c = search needs
 
--- src/sheets.rt:23:9
 cast-t8 : tie.Need-cast-t8
 cast-t8 c = search needs
 
--- src/sheets.rt:24:9
 cast-t10 : tie.Need-cast-t10
 cast-t10 c = search needs
 
--- src/sheets.rt:25:9
 cast-t12 : tie.Need-cast-t12
 cast-t12 c = search needs
 
--- src/sheets.rt:29:9
 cast-t15 : tie.Need-cast-t15
 cast-t15 c = search needs
 
--- src/sheets.rt:30:9
 cast-t17 : tie.Need-cast-t17
 cast-t17 c = search needs
 
--- src/sheets.rt:31:9
 cast-t20 : tie.Need-cast-t20
 cast-t20 c = search needs
 
--- src/sheets.rt:32:9
 cast-t22 : tie.Need-cast-t22
 cast-t22 c = search needs
 
--- src/sheets.rt:33:9
 cast-t25 : tie.Need-cast-t25
 cast-t25 c = search needs
 
--- src/sheets.rt:34:9
 cast-t27 : tie.Need-cast-t27
 cast-t27 c = search needs
 
--- src/sheets.rt:15:1
 returns : tie.Need-returns
 unfolding header
 returns c =

@@ -20,31 +20,24 @@ Inv-loop p s d out₀ head k₀ out k = (k ≤ 12) × (length out ≡ length out
 abbrev μ-loop : tie.MeasureT-loop
 μ-loop p s d out₀ head k₀ out k = 12 - k
 
--- src/sheets.rt:43:16
 header-of-requires : tie.Need-header-of-requires Inv-loop μ-loop
 header-of-requires c κs = search needs
 
--- src/sheets.rt:45:5
 loop-holds : tie.Need-loop-holds Inv-loop μ-loop
 loop-holds c = (omega arith, refl, refl)
 
--- src/sheets.rt:46:18
 array-read-out : tie.Need-array-read-out Inv-loop μ-loop
 array-read-out c = search needs
 
--- src/sheets.rt:46:9
 slice-write-out : tie.Need-slice-write-out Inv-loop μ-loop
 slice-write-out c = search needs
 
--- src/sheets.rt:47:9
 add-k : tie.Need-add-k Inv-loop μ-loop
 add-k c = search needs
 
--- src/sheets.rt:45:5
 loop-less : tie.Need-loop-less Inv-loop μ-loop
 loop-less c = search needs
 
--- src/sheets.rt:45:5
 loop-again : tie.Need-loop-again Inv-loop μ-loop
 loop-again c =
     let o = c .before in
@@ -59,11 +52,9 @@ loop-again c =
       ap₂ (λ (l x : List ℕ). set l k (getD x k 0)) (o .loop .inv .2) (o .before .header-of .ensures) ∙ over-more (a .out .now) h k 0 (search needs) n,
     )
 
--- src/sheets.rt:39:1
 same-length : tie.Need-same-length Inv-loop μ-loop
 same-length c = search needs
 
--- src/sheets.rt:39:1
 returns : tie.Need-returns Inv-loop μ-loop
 returns c =
     let o = c .before in

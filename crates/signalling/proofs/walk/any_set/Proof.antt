@@ -24,16 +24,13 @@ Inv-loop word from to i₀ i = (i ≤ to) × (anySet (slice from to (unpack word
 abbrev μ-loop : tie.MeasureT-loop
 μ-loop word from to i₀ i = to - i
 
--- src/walk.rt:23:5
 loop-holds : tie.Need-loop-holds Inv-loop μ-loop
 unfolding anySet
 loop-holds c = (search needs, refl)
 
--- src/walk.rt:24:12
 word-bits-requires : tie.Need-word-bits-requires Inv-loop μ-loop
 word-bits-requires c κs = search needs
 
--- src/walk.rt:25:13
 returns : tie.Need-returns Inv-loop μ-loop
 returns c =
     let o = c .before .before .before .before .before in
@@ -43,15 +40,12 @@ returns c =
     sym (any-found isSet b 0 (anySet (slice (o .args .from) (o .args .to) (unpack (o .args .word .now)))) (l .i) (l .inv .1)
     (bits-long (o .args .word .now) (o .args .to) (l .i) (search needs) (search needs)) (e ∙ ap not (ne-eqb (c .before .word-bits .result) 0 (c .if1 .taken))))
 
--- src/walk.rt:27:9
 add-i : tie.Need-add-i Inv-loop μ-loop
 add-i c = search needs
 
--- src/walk.rt:23:5
 loop-less : tie.Need-loop-less Inv-loop μ-loop
 loop-less c = search needs
 
--- src/walk.rt:23:5
 loop-again : tie.Need-loop-again Inv-loop μ-loop
 loop-again c =
     let o = c .before .before .before .before .before in
@@ -63,7 +57,6 @@ loop-again c =
           (bits-long (o .args .word .now) (o .args .to) (l .i) (search needs) (search needs)) (e ∙ ap not (eq-eqb (c .before .word-bits .result) 0 (c .if1 .left))),
     )
 
--- src/walk.rt:18:1
 returns-2 : tie.Need-returns-2 Inv-loop μ-loop
 returns-2 c =
     let o = c .before .before .before in

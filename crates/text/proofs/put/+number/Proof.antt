@@ -25,33 +25,27 @@ number-at t = and 1 number-kinds.ps (is 1 number-kinds.ps μ-number t) number.Pr
 abbrev number-below : ℕ → In 1 number-kinds.ps
 number-below t = and 1 number-kinds.ps (falls 1 number-kinds.ps _<_ μ-number t) number.Pre
 
--- src/put.rt:27:24
 number-cast-out :
     (t : ℕ) → number-lts.Need-cast-out (number-below t, number.Post) (number-at t) number.Post
 number-cast-out t c = search needs
 
--- src/put.rt:27:19
 number-add-out :
     (t : ℕ) → number-lts.Need-add-out (number-below t, number.Post) (number-at t) number.Post
 number-add-out t c = search needs
 
--- src/put.rt:27:9
 number-slice-write-out :
     (t : ℕ) →
     number-lts.Need-slice-write-out (number-below t, number.Post) (number-at t) number.Post
 number-slice-write-out t c = omega (arith, length-one (c .before .before .args .v) (c .if1 .taken))
 
--- src/put.rt:28:16
 number-add-result :
     (t : ℕ) → number-lts.Need-add-result (number-below t, number.Post) (number-at t) number.Post
 number-add-result t c = search needs
 
--- src/put.rt:28:9
 number-same-length :
     (t : ℕ) → number-lts.Need-same-length (number-below t, number.Post) (number-at t) number.Post
 number-same-length t c = search needs
 
--- src/put.rt:28:9
 number-returns :
     (t : ℕ) → number-lts.Need-returns (number-below t, number.Post) (number-at t) number.Post
 number-returns t c =
@@ -60,23 +54,19 @@ number-returns t c =
     subst (λ (x : List ℕ). Put (a .out .now) (a .at) x (set (a .out .now) (a .at) (48 + a .v)) (a .at + 1)) (sym (decimal-one (a .v) (c .if1 .taken)))
     (put-one (a .out .now) (a .at) (48 + a .v) (omega arith))
 
--- src/put.rt:30:9
 number-number-requires :
     (t : ℕ) →
     number-lts.Need-number-requires (number-below t, number.Post) (number-at t) number.Post
 number-number-requires t c κs = let v = c .before .before .before .args .v in (omega arith, omega (arith, length-more v (omega arith)))
 
--- src/put.rt:31:20
 number-cast-out-2 :
     (t : ℕ) → number-lts.Need-cast-out-2 (number-below t, number.Post) (number-at t) number.Post
 number-cast-out-2 t c = search needs
 
--- src/put.rt:31:15
 number-add-out-2 :
     (t : ℕ) → number-lts.Need-add-out-2 (number-below t, number.Post) (number-at t) number.Post
 number-add-out-2 t c = search needs
 
--- src/put.rt:31:5
 number-slice-write-out-2 : (t : ℕ) → number-lts.Need-slice-write-out-2 (
   number-below t,
   number.Post,
@@ -85,20 +75,17 @@ number-slice-write-out-2 t c =
     let v = c .before .before .before .before .before .before .args .v in
     omega (arith, length-more v (omega arith))
 
--- src/put.rt:32:5
 number-add-result-2 :
     (t : ℕ) → number-lts.Need-add-result-2 (number-below t, number.Post) (number-at t) number.Post
 number-add-result-2 t c =
     let v = c .before .before .before .before .before .before .args .v in
     omega (arith, length-more v (omega arith))
 
--- src/put.rt:22:1
 number-same-length-2 :
     (t : ℕ) →
     number-lts.Need-same-length-2 (number-below t, number.Post) (number-at t) number.Post
 number-same-length-2 t c = search needs
 
--- src/put.rt:22:1
 number-returns-2 :
     (t : ℕ) → number-lts.Need-returns-2 (number-below t, number.Post) (number-at t) number.Post
 number-returns-2 t c =

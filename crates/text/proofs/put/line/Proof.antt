@@ -17,43 +17,34 @@ Inv-loop out₀ at text numbers to₀ n₀ i₀ out to n i = Passed out₀ at te
 abbrev μ-loop : tie.MeasureT-loop
 μ-loop out₀ at text numbers to₀ n₀ i₀ out to n i = length text - i
 
--- src/put.rt:62:5
 loop-holds : tie.Need-loop-holds Inv-loop μ-loop
 loop-holds c =
     let a = c .before .before .before .args in
     passed-none (a .out .now) (a .at) (a .text .now) (a .numbers .now)
 
--- src/put.rt:63:17
 shared-slice-read-c : tie.Need-shared-slice-read-c Inv-loop μ-loop
 shared-slice-read-c c = search needs
 
--- src/put.rt:64:31
 number-at-requires : tie.Need-number-at-requires Inv-loop μ-loop
 number-at-requires c κs = search needs
 
--- src/put.rt:64:9
 sign-requires : tie.Need-sign-requires Inv-loop μ-loop
 sign-requires c κs =
     let l = c .before .before .before .before in
     sign-room (l .loop .inv) (c .before .before .before .loop-test .taken) (l .before .before .before .before .pre) (c .number-at .ensures)
 
--- src/put.rt:65:14
 takes-requires : tie.Need-takes-requires Inv-loop μ-loop
 takes-requires c κs = search needs
 
--- src/put.rt:65:9
 add-n : tie.Need-add-n Inv-loop μ-loop
 add-n c = search needs
 
--- src/put.rt:66:9
 add-i : tie.Need-add-i Inv-loop μ-loop
 add-i c = search needs
 
--- src/put.rt:62:5
 loop-less : tie.Need-loop-less Inv-loop μ-loop
 loop-less c = search needs
 
--- src/put.rt:62:5
 loop-again : tie.Need-loop-again Inv-loop μ-loop
 loop-again c =
     let s = c .before .before .before in
@@ -61,11 +52,9 @@ loop-again c =
     passed-more (l .loop .inv) (s .before .before .before .before .loop-test .taken) (l .before .before .before .before .pre) (s .before .number-at .ensures)
     (c .takes .ensures .0) (c .takes .ensures .1) (search needs) (s .sign .ensures)
 
--- src/put.rt:55:1
 same-length : tie.Need-same-length Inv-loop μ-loop
 same-length c = search needs
 
--- src/put.rt:55:1
 returns : tie.Need-returns Inv-loop μ-loop
 returns c = passed-all (c .before .loop .inv) (search needs)
 

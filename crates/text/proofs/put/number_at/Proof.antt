@@ -7,19 +7,15 @@ use Rattle.text.proofs.put.number_at.Tie as tie
 use Rattle.text.proofs.put.number_at.Reads as reads
 use Rattle.text.proofs.put.number_at.Lts as lts
 
--- src/put.rt:27:16
 mul-result : tie.Need-mul-result
 mul-result c = search needs
 
--- src/put.rt:27:16
 shared-slice-read-result : tie.Need-shared-slice-read-result
 shared-slice-read-result c = search needs
 
--- src/put.rt:27:9
 returns : tie.Need-returns
 returns c = search needs
 
--- src/put.rt:23:1
 returns-2 : tie.Need-returns-2
 returns-2 c = sym (List·getD-eq-default (c .before .args .numbers .now) 0 (search needs))
 

@@ -14,38 +14,31 @@ use Rattle.text.proofs.put.sign.Reads as reads
 use Rattle.text.proofs.put.sign.Lts as lts
 use Rattle.text.proofs.put.number.Reads as number-reads
 
--- src/put.rt:38:9
 number-requires : tie.Need-number-requires
 number-requires c κs =
     let a = c .before .before .before .args in
     omega (arith, ap length (sign-number (a .c) (a .v) (c .before .if1 .taken)))
 
--- src/put.rt:38:9
 same-length : tie.Need-same-length
 same-length c = search needs
 
--- src/put.rt:38:9
 returns : tie.Need-returns
 returns c =
     let a = c .before .before .before .before .before .before .args in
     let n = c .before .before .number in
     subst (λ (x : List ℕ). Put (a .out .now) (a .at) x (n .last .0) (n .result)) (sym (sign-number (a .c) (a .v) (c .before .before .before .before .if1 .taken))) (n .ensures)
 
--- src/put.rt:40:5
 slice-write-out : tie.Need-slice-write-out
 slice-write-out c =
     let a = c .before .before .args in
     omega (arith, ap length (sign-self (a .c) (a .v) (c .if1 .left)))
 
--- src/put.rt:41:5
 add-result : tie.Need-add-result
 add-result c = search needs
 
--- src/put.rt:33:1
 same-length-2 : tie.Need-same-length-2
 same-length-2 c = search needs
 
--- src/put.rt:33:1
 returns-2 : tie.Need-returns-2
 returns-2 c =
     let a = c .before .before .args in

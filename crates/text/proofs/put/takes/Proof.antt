@@ -7,11 +7,9 @@ use Rattle.text.proofs.put.takes.Tie as tie
 use Rattle.text.proofs.put.takes.Reads as reads
 use Rattle.text.proofs.put.takes.Lts as lts
 
--- src/put.rt:49:9
 returns : tie.Need-returns
 returns c = (sym (takes-one (c .before .args .c) (c .if1 .taken)), search needs)
 
--- src/put.rt:45:1
 returns-2 : tie.Need-returns-2
 returns-2 c = (sym (takes-none (c .before .args .c) (c .if1 .left)), search needs)
 

@@ -18,7 +18,6 @@ use Rattle.text.proofs.records.multiplex.Reads as multiplex-reads
 use Rattle.text.proofs.records.pipes.Reads as pipes-reads
 use Rattle.text.proofs.records.tail.Reads as tail-reads
 
--- src/records.rt:88:9
 multiplex-requires : tie.Need-multiplex-requires
 multiplex-requires c κs =
     let s = c .before .before .before in
@@ -26,7 +25,6 @@ multiplex-requires c κs =
     let l = sheetLists (a .p) (a .s) (a .d) (unpack (a .sheet .now)) in
     (omega (arith, s .pre .sheet), s .pre .pipes, s .pre .streams, s .pre .sections, omega (arith, s .pre .room, accepted-length l))
 
--- src/records.rt:89:9
 pipes-requires : tie.Need-pipes-requires
 unfolding sheetLists
 pipes-requires c κs =
@@ -35,7 +33,6 @@ pipes-requires c κs =
     let l = sheetLists (a .p) (a .s) (a .d) (unpack (a .sheet .now)) in
     (omega (arith, s .pre .sheet), omega (arith, s .pre .sheet, s .pre .pipes, s .pre .streams, s .pre .sections), omega (arith, s .pre .room, accepted-length l))
 
--- src/records.rt:90:9
 tail-requires : tie.Need-tail-requires
 unfolding sheetLists
 tail-requires c κs =
@@ -44,15 +41,12 @@ tail-requires c κs =
     let l = sheetLists (a .p) (a .s) (a .d) (unpack (a .sheet .now)) in
     (omega (arith, s .pre .sheet), omega (arith, s .pre .room, accepted-length l))
 
--- src/records.rt:91:31
 slice-aggregate-line : tie.Need-slice-aggregate-line
 slice-aggregate-line c = search needs
 
--- src/records.rt:91:40
 slice-aggregate-line-2 : tie.Need-slice-aggregate-line-2
 slice-aggregate-line-2 c = search needs
 
--- src/records.rt:91:5
 line-requires : tie.Need-line-requires
 unfolding sheetLists filled
 line-requires c κs =
@@ -61,11 +55,9 @@ line-requires c κs =
     let l = sheetLists (a .p) (a .s) (a .d) (unpack (a .sheet .now)) in
     omega (arith, s .pre .room, accepted-length l)
 
--- src/records.rt:84:1
 same-length : tie.Need-same-length
 same-length c = search needs
 
--- src/records.rt:84:1
 returns : tie.Need-returns
 unfolding sheetLists accepted
 returns c =

@@ -10,35 +10,27 @@ use Rattle.text.proofs.records.multiplex.Lts as lts
 use Rattle.bits.proofs.field.Reads as field-reads
 use Rattle.text.proofs.put.line.Reads as line-reads
 
--- src/records.rt:73:9
 field-requires : tie.Need-field-requires
 field-requires c κs = search needs
 
--- src/records.rt:74:9
 field-requires-2 : tie.Need-field-requires-2
 field-requires-2 c κs = search needs
 
--- src/records.rt:78:9
 slice-aggregate-line : tie.Need-slice-aggregate-line
 slice-aggregate-line c = search needs
 
--- src/records.rt:79:28
 cast-t14 : tie.Need-cast-t14
 cast-t14 c = search needs
 
--- src/records.rt:79:38
 cast-t15 : tie.Need-cast-t15
 cast-t15 c = search needs
 
--- src/records.rt:79:48
 cast-t16 : tie.Need-cast-t16
 cast-t16 c = search needs
 
--- src/records.rt:79:9
 slice-aggregate-line-2 : tie.Need-slice-aggregate-line-2
 slice-aggregate-line-2 c = search needs
 
--- src/records.rt:75:5
 line-requires : tie.Need-line-requires
 unfolding multiplexLine
 line-requires c κs =
@@ -47,11 +39,9 @@ line-requires c κs =
     let a = s .args in
     rw (← multiplex-numbers (a .sheet .now) (a .p) (a .s) (a .d) (s .pre .0) (o .before .field .ensures) (o .field2 .ensures)) (omega (arith, s .pre .4))
 
--- src/records.rt:69:1
 same-length : tie.Need-same-length
 same-length c = search needs
 
--- src/records.rt:69:1
 returns : tie.Need-returns
 unfolding multiplexLine
 returns c =

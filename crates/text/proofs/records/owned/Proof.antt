@@ -8,15 +8,12 @@ use Rattle.text.proofs.records.owned.Tie as tie
 use Rattle.text.proofs.records.owned.Reads as reads
 use Rattle.text.proofs.records.owned.Lts as lts
 
--- src/records.rt:20:9
 returns : tie.Need-returns
 returns c = sym (choose-true _ _ (eq-eqb (c .before .args .width) 0 (c .if1 .taken)))
 
--- src/records.rt:22:5
 add-result : tie.Need-add-result
 add-result c = search needs
 
--- src/records.rt:15:1
 returns-2 : tie.Need-returns-2
 returns-2 c = sym (choose-false _ _ (ne-eqb (c .before .args .width) 0 (c .if1 .left)))
 

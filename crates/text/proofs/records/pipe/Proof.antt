@@ -14,55 +14,43 @@ use Rattle.bits.proofs.field.Reads as field-reads
 use Rattle.text.proofs.put.line.Reads as line-reads
 use Rattle.text.proofs.records.owned.Reads as owned-reads
 
--- src/records.rt:30:9
 field-requires : tie.Need-field-requires
 field-requires c κs = search needs
 
--- src/records.rt:31:36
 add-field : tie.Need-add-field
 add-field c = search needs
 
--- src/records.rt:31:9
 field-requires-2 : tie.Need-field-requires-2
 field-requires-2 c κs = search needs
 
--- src/records.rt:32:45
 add-field-2 : tie.Need-add-field-2
 add-field-2 c = search needs
 
--- src/records.rt:32:26
 field-requires-3 : tie.Need-field-requires-3
 field-requires-3 c κs = search needs
 
--- src/records.rt:32:9
 owned-requires : tie.Need-owned-requires
 owned-requires c κs =
     let a = c .before .before .before .before .before .args in
     omega (arith, c .field3 .ensures, field-lt (a .sheet .now) (a .place + 16) 5 (omega arith))
 
--- src/records.rt:33:45
 add-field-3 : tie.Need-add-field-3
 add-field-3 c = search needs
 
--- src/records.rt:33:26
 field-requires-4 : tie.Need-field-requires-4
 field-requires-4 c κs = search needs
 
--- src/records.rt:33:9
 owned-requires-2 : tie.Need-owned-requires-2
 owned-requires-2 c κs =
     let a = c .before .before .before .before .before .before .before .args in
     omega (arith, c .field4 .ensures, field-lt (a .sheet .now) (a .place + 21) 3 (omega arith))
 
--- src/records.rt:37:9
 slice-aggregate-line : tie.Need-slice-aggregate-line
 slice-aggregate-line c = search needs
 
--- src/records.rt:38:9
 slice-aggregate-line-2 : tie.Need-slice-aggregate-line-2
 slice-aggregate-line-2 c = search needs
 
--- src/records.rt:34:5
 line-requires : tie.Need-line-requires
 unfolding pipeLine
 line-requires c κs =
@@ -72,11 +60,9 @@ line-requires c κs =
     rw (← pipe-numbers (a .sheet .now) (a .place) (a .k) (s .pre .0)
     (o .before .before .before .before .before .field .ensures) (o .before .before .before .before .field2 .ensures) (o .before .before .before .field3 .ensures) (o .before .field4 .ensures) (o .before .before .owned .ensures) (o .owned2 .ensures)) (s .pre .2)
 
--- src/records.rt:26:1
 same-length : tie.Need-same-length
 same-length c = search needs
 
--- src/records.rt:26:1
 returns : tie.Need-returns
 unfolding pipeLine
 returns c =

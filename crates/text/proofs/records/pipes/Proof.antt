@@ -22,29 +22,23 @@ Inv-loop sheet p out₀ at to₀ i₀ out to i = Lined out₀ at (cuts table16 p
 abbrev μ-loop : tie.MeasureT-loop
 μ-loop sheet p out₀ at to₀ i₀ out to i = p - i
 
--- src/records.rt:49:5
 loop-holds : tie.Need-loop-holds Inv-loop μ-loop
 loop-holds c =
     let a = c .before .before .args in
     lined-none (a .out .now) (a .at) (cuts table16 (a .p) (drop 168 (unpack (a .sheet .now))))
 
--- src/records.rt:50:32
 mul-pipe : tie.Need-mul-pipe Inv-loop μ-loop
 mul-pipe c = search needs
 
--- src/records.rt:50:26
 add-pipe : tie.Need-add-pipe Inv-loop μ-loop
 add-pipe c = search needs
 
--- src/records.rt:50:41
 add-pipe-2 : tie.Need-add-pipe-2 Inv-loop μ-loop
 add-pipe-2 c = search needs
 
--- src/records.rt:50:40
 cast-pipe : tie.Need-cast-pipe Inv-loop μ-loop
 cast-pipe c = search needs
 
--- src/records.rt:50:9
 pipe-requires : tie.Need-pipe-requires Inv-loop μ-loop
 pipe-requires c κs =
     let l = c .before .before in
@@ -57,15 +51,12 @@ pipe-requires c κs =
           (pipeAt (a .sheet .now) (168 + 48 * l .loop .i)) (pipe-is (a .sheet .now) 168 (a .p) (l .loop .i) (c .before .loop-test .taken)) (l .loop .inv) (s .pre .2),
     )
 
--- src/records.rt:51:9
 add-i : tie.Need-add-i Inv-loop μ-loop
 add-i c = search needs
 
--- src/records.rt:49:5
 loop-less : tie.Need-loop-less Inv-loop μ-loop
 loop-less c = search needs
 
--- src/records.rt:49:5
 loop-again : tie.Need-loop-again Inv-loop μ-loop
 loop-again c =
     let l = c .before .before .before .before .before in
@@ -76,11 +67,9 @@ loop-again c =
     (pipeAt (a .sheet .now) (168 + 48 * l .loop .i)) (pipe-is (a .sheet .now) 168 (a .p) (l .loop .i) (c .before .before .before .before .loop-test .taken)) (l .loop .inv) (s .pre .2)
     (search needs) (c .before .before .pipe .ensures)
 
--- src/records.rt:43:1
 same-length : tie.Need-same-length Inv-loop μ-loop
 same-length c = search needs
 
--- src/records.rt:43:1
 returns : tie.Need-returns Inv-loop μ-loop
 returns c =
     let a = c .before .before .before .before .args in

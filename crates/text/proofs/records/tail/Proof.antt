@@ -17,19 +17,15 @@ use Rattle.text.proofs.records.tail.Lts as lts
 use Rattle.bits.proofs.field.Reads as field-reads
 use Rattle.text.proofs.put.line.Reads as line-reads
 
--- src/records.rt:61:9
 field-requires : tie.Need-field-requires
 field-requires c κs = search needs
 
--- src/records.rt:63:42
 slice-aggregate-line : tie.Need-slice-aggregate-line
 slice-aggregate-line c = search needs
 
--- src/records.rt:63:60
 slice-aggregate-line-2 : tie.Need-slice-aggregate-line-2
 slice-aggregate-line-2 c = search needs
 
--- src/records.rt:63:9
 line-requires : tie.Need-line-requires
 unfolding tailLine
 line-requires c κs =
@@ -39,11 +35,9 @@ line-requires c κs =
     let w = f .field .ensures ∙ tail-at (a .sheet .now) 152 (omega arith) in
     rw (eq-eqb (tailWidth t) 0 (sym w ∙ c .before .before .before .if1 .taken)) at (f .before .before .before .pre .1)
 
--- src/records.rt:63:9
 same-length : tie.Need-same-length
 same-length c = search needs
 
--- src/records.rt:63:9
 returns : tie.Need-returns
 unfolding tailLine
 returns c =
@@ -53,15 +47,12 @@ returns c =
     let w = f .field .ensures ∙ tail-at (a .sheet .now) 152 (omega arith) in
     rw (eq-eqb (tailWidth t) 0 (sym w ∙ c .before .before .before .before .before .before .if1 .taken)) (c .before .before .line .ensures)
 
--- src/records.rt:65:31
 slice-aggregate-line-3 : tie.Need-slice-aggregate-line-3
 slice-aggregate-line-3 c = search needs
 
--- src/records.rt:65:50
 slice-aggregate-line-4 : tie.Need-slice-aggregate-line-4
 slice-aggregate-line-4 c = search needs
 
--- src/records.rt:65:5
 line-requires-2 : tie.Need-line-requires-2
 unfolding tailLine
 line-requires-2 c κs =
@@ -71,11 +62,9 @@ line-requires-2 c κs =
     let w = f .field .ensures ∙ tail-at (a .sheet .now) 152 (omega arith) in
     rw (ne-eqb (tailWidth t) 0 (λ z. c .before .before .before .if1 .left (w ∙ z)), sym w) at (f .before .before .before .pre .1)
 
--- src/records.rt:57:1
 same-length-2 : tie.Need-same-length-2
 same-length-2 c = search needs
 
--- src/records.rt:57:1
 returns-2 : tie.Need-returns-2
 unfolding tailLine
 returns-2 c =
