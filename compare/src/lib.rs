@@ -1,6 +1,6 @@
 //! Tests from outside. [`second`] is an independent implementation, written from the standard and the
 //! scope and never from crates/; [`opl`] calls the proved library; the tests hold one to the other over
-//! made-up [`inputs`].
+//! made-up [`inputs`]. [`vectors`] is what the program crates/vectors must print.
 
 mod call;
 pub mod inputs;
@@ -8,3 +8,4 @@ pub mod lent;
 pub mod opl;
 pub mod rng;
 pub mod second;
+pub mod vectors;

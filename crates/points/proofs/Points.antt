@@ -1,0 +1,40 @@
+-- The ten cases that document 01 marks P, under one claim, by computation.
+-- Assumes nothing.
+use mathlib.Core.Path.{_≡_, refl}
+use mathlib.Core.List.{map}
+use lib.ListN.{length}
+use Rattle.ground.specs.Choice.{any}
+use Rattle.ground.specs.Table.{tab}
+use Rattle.bits.specs.Lists.{bits, num, unpack, pack}
+use Rattle.crc.specs.Crc.{clock, clocks, crcOf}
+use Rattle.patterns.specs.Rates.{rates, rateOf, unitsOf}
+use Rattle.patterns.specs.Sent.{codeLength}
+use Rattle.description.specs.Rows.{total, width, join, cut, joins, cuts}
+use Rattle.description.specs.Description.{ownStreams, ownSections, tailOwns, recordsOf, streamsOf, sectionsOf, listsOf, streamCount, sectionCount}
+use Rattle.description.specs.Layout.{body, padded, sealed}
+use Rattle.description.specs.Sheet.{header, records, sheetOf, sheet}
+use Rattle.description.specs.Tests.{versionFault, listsFault, anySet, widthWrong, widthFault, tapsWrong, tapFault, member, idFault}
+use Rattle.description.specs.Word.{multiplexIn, pIn, pipesIn, tailIn, sIn, dIn, streamsIn, sectionsIn, spareFault, crcFault, paddingFault, wordFaults}
+use Rattle.description.specs.Form1.{headerFault, sheetSections, sheetLists, listsStated, topFault, countFault, sheetFaults}
+use Rattle.interleaver.specs.Order.{parameter, entries5, entries9, entry, reversed, address, kept}
+use Rattle.turbo.specs.Constituent.{y0, y1, next, state, feed, clocked}
+use Rattle.turbo.specs.Lane.{tailSymbols1}
+use Rattle.points.specs.Points.{Point, points}
+
+-- they are ten, and what the definitions give is what 01 says
+pub points-hold : (length points ≡ 10) × (map (λ (c : Point). c .gives) points ≡ map (λ (c : Point). c .says) points)
+unfolding points
+    any tab
+    bits num unpack pack
+    clock clocks crcOf
+    rates rateOf unitsOf codeLength
+    total width join cut joins cuts
+    ownStreams ownSections tailOwns recordsOf streamsOf sectionsOf listsOf streamCount sectionCount
+    body padded sealed
+    header records sheetOf sheet
+    versionFault listsFault anySet widthWrong widthFault tapsWrong tapFault member idFault
+    multiplexIn pIn pipesIn tailIn sIn dIn streamsIn sectionsIn spareFault crcFault paddingFault wordFaults
+    headerFault sheetSections sheetLists listsStated topFault countFault sheetFaults
+    parameter entries5 entries9 entry reversed address kept
+    y0 y1 next state feed clocked tailSymbols1
+points-hold = (refl, refl)
