@@ -47,13 +47,9 @@ module _ (sh : List ℕ) (right : headerFault sh ≡ false) (p s d : ℕ) (ep : 
       ∙ ap₂ (λ (x y : ℕ). anySet (map (λ r. getD r 0 0) (Rattle.description.specs.Form1.sheetSections x y d (unpack sh)))) ep es
       ∙ ap (λ (z : ℕ). anySet (map (λ r. getD r 0 0) (Rattle.description.specs.Form1.sheetSections (pStated sh) (sStated sh) z (unpack sh)))) ed
 
-  pub version-right : (x : ℕ) → x ≡ fieldAt sh 96 4 → x ≡ 0 → versionFault (listsStated sh .multiplex) ≡ false
+  pub version-read : (x : ℕ) → x ≡ fieldAt sh 96 4 → not (eqb x 0) ≡ versionFault (listsStated sh .multiplex)
   unfolding versionFault
-  version-right x e h = ap not (eq-eqb _ _ (sym (e ∙ version-said sh p s d long-enough ∙ ap (λ (l : Lists). getD (l .multiplex) 0 0) lists≡) ∙ h))
-
-  pub version-wrong : (x : ℕ) → x ≡ fieldAt sh 96 4 → (x ≡ 0 → ⊥) → versionFault (listsStated sh .multiplex) ≡ true
-  unfolding versionFault
-  version-wrong x e h = ap not (ne-eqb _ _ (λ q. h (e ∙ version-said sh p s d long-enough ∙ ap (λ (l : Lists). getD (l .multiplex) 0 0) lists≡ ∙ q)))
+  version-read x e = ap (λ (k : ℕ). not (eqb k 0)) (e ∙ version-said sh p s d long-enough ∙ ap (λ (l : Lists). getD (l .multiplex) 0 0) lists≡)
 
   pub count-is : countFault p s d (sheetLists p s d (unpack sh)) ≡ countFault (pStated sh) (sStated sh) (dStated sh) (listsStated sh)
   count-is =

@@ -90,10 +90,12 @@ pub fn judge(sheet: &[u8], p: usize, s: usize, d: usize) -> u8
     ensures { λ r. ⌜ r ≡ firstOf (drop 1 (sheetFaults (now (sheet .entry)))) ⌝ }
 {
     let sections = 168 + 48 * p + 16 * s;
-    if top_set(sheet, sections, d) {
+    let top = top_set(sheet, sections, d);
+    let newer = crate::walk::word_bits(sheet, 96, 4) != 0;
+    if top {
         return 14;
     }
-    if crate::walk::word_bits(sheet, 96, 4) != 0 {
+    if newer {
         return 6;
     }
     if counts_differ(sheet, p, s, d) {
