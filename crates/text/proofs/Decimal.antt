@@ -1,7 +1,7 @@
--- Laws of decimal numbers: one digit, one digit more, and how many digits a number has.
+-- Laws of decimal numbers: one digit, one digit more, how many digits a number has, and that they spell it.
 -- Assumes nothing.
-use Prim.Native.Nat.{ℕ, zero, suc, _+_, _*_, _/_, _%_, _^_, _≤_, _<_}
-use mathlib.Core.Path.{_≡_, refl, sym, ap, ap₂, _∙_}
+use Prim.Native.Nat.{ℕ, zero, suc, _+_, _-_, _*_, _/_, _%_, _^_, _≤_, _<_}
+use mathlib.Core.Path.{_≡_, refl, sym, ap, _∙_}
 use mathlib.Core.List.{List, [], _∷_, _++_}
 use native.Mathlib.Nat.{pow-succ'}
 use native.Mathlib.Decide.{decLt}
@@ -54,3 +54,26 @@ digits-most (suc k) n h =
       | yes l ↦ omega (arith, length-one n l)
       | no l ↦ omega (arith, length-more n (omega arith), digits-most k (n / 10) (omega (arith, pow-succ' 10 (suc k))))
     ]
+
+-- ---- what the digits spell is the number
+abbrev pub spelt : ℕ → List ℕ → ℕ
+spelt v [] = v
+spelt v (c ∷ l) = spelt (v * 10 + (c - 48)) l
+
+spelt-append : (v : ℕ) (a b : List ℕ) → spelt v (a ++ b) ≡ spelt (spelt v a) b
+spelt-append v [] b = refl
+spelt-append v (c ∷ a) b = spelt-append (v * 10 + (c - 48)) a b
+
+digits-spell : (k n : ℕ) → n ≤ k → spelt 0 (digits k n) ≡ n
+digits-spell zero n h = ap (spelt 0) (digits-one zero n (omega arith)) ∙ omega arith
+digits-spell (suc k) n h =
+    elim (decLt n 10) [
+      | yes l ↦ ap (spelt 0) (digits-one (suc k) n l) ∙ omega arith
+      | no l ↦ (
+          let e : spelt 0 (digits k (n / 10)) ≡ n / 10 = digits-spell k (n / 10) (omega arith) in
+          ap (spelt 0) (digits-more k n (omega arith)) ∙ spelt-append 0 (digits k (n / 10)) ((48 + n % 10) ∷ []) ∙ omega arith)
+    ]
+
+pub decimal-spells : (n : ℕ) → spelt 0 (decimal n) ≡ n
+unfolding decimal
+decimal-spells n = digits-spell n n (omega arith)

@@ -1,6 +1,6 @@
 -- The lines of an accepted sheet: the numbers that are read for them, and the loop over the payload pipes.
 -- Assumes nothing.
-use Prim.Native.Nat.{ℕ, zero, suc, _+_, _*_, _≤_, _<_}
+use Prim.Native.Nat.{ℕ, suc, _+_, _*_, _≤_, _<_}
 use mathlib.Core.Path.{_≡_, refl, sym, ap, ap₂, _∙_, subst}
 use mathlib.Core.List.{List, [], _∷_, _++_, append-nil, append-assoc}
 use native.Mathlib.Nat.{add-zero, add-suc, suc-add}
@@ -12,14 +12,13 @@ use lib.Seq.{take-suc, take-all, length-take-le}
 use Rattle.ground.specs.Choice.{choose}
 use Rattle.bits.specs.Lists.{unpack}
 use Rattle.bits.specs.Places.{fieldAt}
-use Rattle.description.specs.Rows.{cuts}
 use Rattle.description.specs.Fields.{table15, table16, table18, table19, operatorId, frameIndex, punctPat, pipeWidth}
 use Rattle.description.specs.Description.{Lists, ownStreams, ownSections}
 use Rattle.description.specs.Sheet.{streamsFrom, sectionsFrom}
 use Rattle.description.specs.Form1.{bare, sheetSections, sheetLists}
 use Rattle.description.proofs.Rows.{offset, cuts-length}
 use Rattle.description.proofs.Places.{row-field}
-use Rattle.signalling.proofs.Records.{pipeAt, pattern-at, width-at, streams-at, sections-at, pipe-is}
+use Rattle.signalling.proofs.Records.{pipeAt, pattern-at, width-at, streams-at, sections-at}
 use Rattle.text.specs.Words.{filled}
 use Rattle.text.specs.Listing.{multiplexLine, pipeLine, pipeLines, tailLine, accepted}
 use Rattle.text.specs.Put.{Put}

@@ -12,7 +12,7 @@ use Rattle.ground.proofs.Outcome.{gave}
 use Rattle.ground.proofs.Choice.{choose-true, choose-false, all-clear}
 use Rattle.bits.specs.Lists.{unpack}
 use Rattle.description.specs.Word.{front}
-use Rattle.description.specs.Form1.{pStated, sStated, dStated, sheetLists, listsStated, sheetFaults, checked}
+use Rattle.description.specs.Form1.{pStated, sStated, dStated, sheetLists, sheetFaults, checked}
 use Rattle.description.proofs.Tests.{lists-clear}
 use Rattle.signalling.proofs.Surveys.{refusedBy}
 use Rattle.signalling.proofs.Readings.{counted}

@@ -3,7 +3,7 @@
 use Prim.Native.Nat.{ℕ, zero, suc, _+_, _*_, _≤_, _<_}
 use mathlib.Core.Path.{_≡_, sym, _∙_}
 use mathlib.Core.Bool.{Bool, true, false}
-use mathlib.Core.List.{List, [], _∷_, _++_}
+use mathlib.Core.List.{List, [], _∷_}
 use native.Mathlib.Nat.{mul-suc, le-trans}
 use native.Mathlib.Decide.{ℕ-discrete}
 use native.Mathlib.Omega.{arith}
@@ -11,7 +11,7 @@ use lib.Dec.{eqb}
 use lib.ListN.{length, getD, drop, length-append}
 use borrow.Author.Tests.{eq-eqb, ne-eqb}
 use Rattle.ground.specs.Choice.{choose, Fault, firstOf}
-use Rattle.ground.proofs.Choice.{choose-true, choose-false, all-clear}
+use Rattle.ground.proofs.Choice.{all-clear}
 use Rattle.bits.specs.Lists.{unpack, Below}
 use Rattle.bits.proofs.Lists.{unpack-below}
 use Rattle.bits.proofs.Below.{below-drop}

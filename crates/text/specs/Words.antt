@@ -14,12 +14,12 @@ abbrev pub ascii : String → List ℕ
 ascii string.[] = []
 ascii (string._∷_ c s) = code c ∷ ascii s
 
--- the digits of n, no zero before the first: those of n / 10, where there are any, and then n % 10; k counts the digits down
+-- the digits of n, no zero before the first: those of n / 10, where there are any, and then that of n % 10; k bounds their number
 unfoldable pub digits : ℕ → ℕ → List ℕ
 digits zero n = (48 + n) ∷ []
 digits (suc k) n = choose (ltb n 10) ((48 + n) ∷ []) (digits k (n / 10) ++ ((48 + n % 10) ∷ []))
 
--- a number in decimal: n itself counts more digits than n has
+-- a number in decimal: n has at most n + 1 digits
 unfoldable pub decimal : ℕ → List ℕ
 decimal n = digits n n
 

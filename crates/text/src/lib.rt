@@ -1,4 +1,4 @@
-// The listing of a sheet, as text.
+// The listing of a sheet (document 01, "Points on either side"), as text.
 mod put;
 mod records;
 
@@ -38,5 +38,5 @@ pub fn list(sheet: &[u8], out: &mut [u8]) -> Listing
         let n = put::line(out, 0, b"refused #\n", &[number as u32]);
         return Listing::Refused { number, n };
     };
-    Listing::Text(records::list(sheet, p, s, d, out))
+    Listing::Text(records::lines(sheet, p, s, d, out))
 }

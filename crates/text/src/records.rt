@@ -1,4 +1,5 @@
 // The lines of an accepted sheet, put into a buffer: each function returns the place behind its text.
+// In a sheet the multiplex fields stand from bit 96 on, the tail from 152, and the payload pipes from 168.
 ghost use mathlib.Core.Path.{_≡_};
 ghost use Prim.Native.Nat.{_+_, _*_, _≤_, _<_};
 ghost use lib.Dec.{eqb};
@@ -80,8 +81,8 @@ fn multiplex(sheet: &[u8], p: usize, s: usize, d: usize, out: &mut [u8]) -> usiz
     )
 }
 
-// All lines.
-pub fn list(sheet: &[u8], p: usize, s: usize, d: usize, out: &mut [u8]) -> usize
+// All lines, of a sheet whose header states p, s and d.
+pub fn lines(sheet: &[u8], p: usize, s: usize, d: usize, out: &mut [u8]) -> usize
     requires { ⌜ Stated (now sheet) p s d (now out) ⌝ }
     ensures { λ r. ⌜ Put (now (out .entry)) 0 (accepted (sheetLists p s d (unpack (now (sheet .entry))))) (now (out .exit)) r ⌝ }
 {

@@ -1,9 +1,8 @@
 -- `listing::main` meets its contract: what is written lies within the room. Assumes nothing.
-use Prim.Native.Nat.{ℕ, _≤_}
+use Prim.Native.Nat.{_≤_}
 use mathlib.Core.Path.{sym, subst}
 use native.Mathlib.Omega.{arith}
 use borrow.Author.Needs.{needs}
-use lib.ListN.{length}
 use lib.Seq.{length-take-le}
 use Rattle.text.specs.Answers.{told}
 use Rattle.text.proofs.Listed.{final, told-short}

@@ -13,13 +13,13 @@ use Rattle.text.proofs.list.Reads as reads
 use Rattle.text.proofs.list.Lts as lts
 use Rattle.signalling.proofs.check.Reads as check-reads
 use Rattle.text.proofs.put.line.Reads as line-reads
-use Rattle.text.proofs.records.list.Reads as list-reads
+use Rattle.text.proofs.records.lines.Reads as lines-reads
 use Rattle.text.proofs.refusal.Reads as refusal-reads
 
 returns : tie.Need-returns
 returns c =
     let a = c .before .before .before .args in
-    no-room (a .sheet .now) (a .out .now) (c .if1 .taken)
+    no-room (a .sheet .now) (a .out .now) (search needs)
 
 check-requires : tie.Need-check-requires
 check-requires c κs = search needs
@@ -42,13 +42,6 @@ cast-t17 c = search needs
 slice-aggregate-line-2 : tie.Need-slice-aggregate-line-2
 slice-aggregate-line-2 c = search needs
 
-line-requires : tie.Need-line-requires
-unfolding refused
-line-requires c κs = omega (arith, refused-short (c .before .before .before .refusal .result) (search needs))
-
-same-length : tie.Need-same-length
-same-length c = search needs
-
 returns-2 : tie.Need-returns-2
 unfolding refused
 returns-2 c =
@@ -59,8 +52,15 @@ returns-2 c =
     let m = r .refusal .ensures ∙ ap (λ x. toldCheck x .number) (f .1) in
     refused-put (a .sheet .now) (a .out .now) (search needs) (r .refusal .result) (ap refusedBy m ∙ sym (ap toldCheck (f .1)) ∙ k .check .ensures) (c .before .before .line .ensures)
 
-list-requires : tie.Need-list-requires
-list-requires c κs =
+line-requires : tie.Need-line-requires
+unfolding refused
+line-requires c κs = omega (arith, refused-short (c .before .before .before .refusal .result) (search needs))
+
+same-length : tie.Need-same-length
+same-length c = search needs
+
+lines-requires : tie.Need-lines-requires
+lines-requires c κs =
     let f = c .before .before .answer .given in
     let a = c .before .before .before .before .before .before .before .before .args in
     stated (a .sheet .now) (a .out .now) (search needs) (f .0 .0) (f .0 .1 .0) (f .0 .1 .1 .0) (sym (ap toldCheck (f .1)) ∙ c .before .before .before .before .check .ensures)
@@ -72,7 +72,7 @@ returns-3 : tie.Need-returns-3
 returns-3 c =
     let f = c .before .before .before .before .before .answer .given in
     let a = c .before .before .before .before .before .before .before .before .before .before .before .args in
-    accepted-put (a .sheet .now) (a .out .now) (search needs) (f .0 .0) (f .0 .1 .0) (f .0 .1 .1 .0) (sym (ap toldCheck (f .1)) ∙ c .before .before .before .before .before .before .before .check .ensures) (c .before .before .list .ensures)
+    accepted-put (a .sheet .now) (a .out .now) (search needs) (f .0 .0) (f .0 .1 .0) (f .0 .1 .1 .0) (sym (ap toldCheck (f .1)) ∙ c .before .before .before .before .before .before .before .check .ensures) (c .before .before .lines .ensures)
 
 pub list-spec : {M : Type 1} → statement M
 list-spec =
@@ -89,6 +89,6 @@ list-spec =
     line-requires
     same-length
     returns-2
-    list-requires
+    lines-requires
     same-length-2
     returns-3)

@@ -31,6 +31,14 @@ cast-t16 c = search needs
 slice-aggregate-line-2 : tie.Need-slice-aggregate-line-2
 slice-aggregate-line-2 c = search needs
 
+returns : tie.Need-returns
+unfolding multiplexLine
+returns c =
+    let o = c .before .before .before .before .before .before in
+    let s = o .before .before .before .before in
+    let a = s .args in
+    rw (multiplex-numbers (a .sheet .now) (a .p) (a .s) (a .d) (s .pre .0) (o .before .field .ensures) (o .field2 .ensures)) (c .before .before .line .ensures)
+
 line-requires : tie.Need-line-requires
 unfolding multiplexLine
 line-requires c κs =
@@ -41,14 +49,6 @@ line-requires c κs =
 
 same-length : tie.Need-same-length
 same-length c = search needs
-
-returns : tie.Need-returns
-unfolding multiplexLine
-returns c =
-    let o = c .before .before .before .before .before .before in
-    let s = o .before .before .before .before in
-    let a = s .args in
-    rw (multiplex-numbers (a .sheet .now) (a .p) (a .s) (a .d) (s .pre .0) (o .before .field .ensures) (o .field2 .ensures)) (c .before .before .line .ensures)
 
 pub multiplex-spec : {M : Type 1} → statement M
 multiplex-spec =

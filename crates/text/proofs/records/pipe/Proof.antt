@@ -1,6 +1,5 @@
 -- `text::records::pipe` meets its contract. Assumes nothing.
-use Prim.Native.Nat.{ℕ, _+_}
-use mathlib.Core.Path.{_≡_, sym, subst}
+use Prim.Native.Nat.{_+_}
 use native.Mathlib.Omega.{arith}
 use borrow.Author.Needs.{needs}
 use Rattle.bits.proofs.Places.{field-lt}
@@ -51,6 +50,15 @@ slice-aggregate-line c = search needs
 slice-aggregate-line-2 : tie.Need-slice-aggregate-line-2
 slice-aggregate-line-2 c = search needs
 
+returns : tie.Need-returns
+unfolding pipeLine
+returns c =
+    let o = c .before .before .before .before .before .before in
+    let s = o .before .before .before .before .before .before .before .before in
+    let a = s .args in
+    rw (pipe-numbers (a .sheet .now) (a .place) (a .k) (s .pre .0)
+    (o .before .before .before .before .before .field .ensures) (o .before .before .before .before .field2 .ensures) (o .before .before .before .field3 .ensures) (o .before .field4 .ensures) (o .before .before .owned .ensures) (o .owned2 .ensures)) (c .before .before .line .ensures)
+
 line-requires : tie.Need-line-requires
 unfolding pipeLine
 line-requires c κs =
@@ -62,15 +70,6 @@ line-requires c κs =
 
 same-length : tie.Need-same-length
 same-length c = search needs
-
-returns : tie.Need-returns
-unfolding pipeLine
-returns c =
-    let o = c .before .before .before .before .before .before in
-    let s = o .before .before .before .before .before .before .before .before in
-    let a = s .args in
-    rw (pipe-numbers (a .sheet .now) (a .place) (a .k) (s .pre .0)
-    (o .before .before .before .before .before .field .ensures) (o .before .before .before .before .field2 .ensures) (o .before .before .before .field3 .ensures) (o .before .field4 .ensures) (o .before .before .owned .ensures) (o .owned2 .ensures)) (c .before .before .line .ensures)
 
 pub pipe-spec : {M : Type 1} → statement M
 pipe-spec =

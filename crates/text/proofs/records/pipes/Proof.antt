@@ -1,9 +1,8 @@
 -- `text::records::pipes` meets its contract: after i turns the lines of i pipes are put. Assumes nothing.
-use Prim.Native.Nat.{ℕ, _+_, _-_, _*_, _<_}
-use mathlib.Core.Path.{_≡_, sym, subst}
+use Prim.Native.Nat.{_+_, _-_, _*_}
 use native.Mathlib.Omega.{arith}
 use borrow.Author.Needs.{needs}
-use lib.ListN.{length, drop}
+use lib.ListN.{drop}
 use Rattle.bits.specs.Lists.{unpack}
 use Rattle.description.specs.Rows.{cuts}
 use Rattle.description.specs.Fields.{table16}
@@ -39,6 +38,16 @@ add-pipe-2 c = search needs
 cast-pipe : tie.Need-cast-pipe Inv-loop μ-loop
 cast-pipe c = search needs
 
+loop-again : tie.Need-loop-again Inv-loop μ-loop
+loop-again c =
+    let l = c .before .before .before .before .before in
+    let s = l .before .before .before in
+    let a = s .args in
+    let n = cuts-length table16 (a .p) (drop 168 (unpack (a .sheet .now))) in
+    lined-more (cuts table16 (a .p) (drop 168 (unpack (a .sheet .now)))) (l .loop .i) (omega arith)
+    (pipeAt (a .sheet .now) (168 + 48 * l .loop .i)) (pipe-is (a .sheet .now) 168 (a .p) (l .loop .i) (c .before .before .before .before .loop-test .taken)) (l .loop .inv) (s .pre .2)
+    (search needs) (c .before .before .pipe .ensures)
+
 pipe-requires : tie.Need-pipe-requires Inv-loop μ-loop
 pipe-requires c κs =
     let l = c .before .before in
@@ -56,16 +65,6 @@ add-i c = search needs
 
 loop-less : tie.Need-loop-less Inv-loop μ-loop
 loop-less c = search needs
-
-loop-again : tie.Need-loop-again Inv-loop μ-loop
-loop-again c =
-    let l = c .before .before .before .before .before in
-    let s = l .before .before .before in
-    let a = s .args in
-    let n = cuts-length table16 (a .p) (drop 168 (unpack (a .sheet .now))) in
-    lined-more (cuts table16 (a .p) (drop 168 (unpack (a .sheet .now)))) (l .loop .i) (omega arith)
-    (pipeAt (a .sheet .now) (168 + 48 * l .loop .i)) (pipe-is (a .sheet .now) 168 (a .p) (l .loop .i) (c .before .before .before .before .loop-test .taken)) (l .loop .inv) (s .pre .2)
-    (search needs) (c .before .before .pipe .ensures)
 
 same-length : tie.Need-same-length Inv-loop μ-loop
 same-length c = search needs

@@ -1,6 +1,5 @@
 -- `text::records::tail` meets its contract. Assumes nothing.
-use Prim.Native.Nat.{ℕ, _+_}
-use mathlib.Core.Path.{_≡_, sym, _∙_}
+use mathlib.Core.Path.{sym, _∙_}
 use native.Mathlib.Omega.{arith}
 use borrow.Author.Needs.{needs}
 use borrow.Author.Tests.{eq-eqb, ne-eqb}
@@ -26,6 +25,15 @@ slice-aggregate-line c = search needs
 slice-aggregate-line-2 : tie.Need-slice-aggregate-line-2
 slice-aggregate-line-2 c = search needs
 
+returns : tie.Need-returns
+unfolding tailLine
+returns c =
+    let f = c .before .before .before .before .before .before .before in
+    let a = f .before .before .before .args in
+    let t = cut table16b (drop 152 (unpack (a .sheet .now))) in
+    let w = f .field .ensures ∙ tail-at (a .sheet .now) 152 (omega arith) in
+    rw (eq-eqb (tailWidth t) 0 (sym w ∙ c .before .before .before .before .before .before .if1 .taken)) (c .before .before .line .ensures)
+
 line-requires : tie.Need-line-requires
 unfolding tailLine
 line-requires c κs =
@@ -38,20 +46,20 @@ line-requires c κs =
 same-length : tie.Need-same-length
 same-length c = search needs
 
-returns : tie.Need-returns
-unfolding tailLine
-returns c =
-    let f = c .before .before .before .before .before .before .before in
-    let a = f .before .before .before .args in
-    let t = cut table16b (drop 152 (unpack (a .sheet .now))) in
-    let w = f .field .ensures ∙ tail-at (a .sheet .now) 152 (omega arith) in
-    rw (eq-eqb (tailWidth t) 0 (sym w ∙ c .before .before .before .before .before .before .if1 .taken)) (c .before .before .line .ensures)
-
 slice-aggregate-line-3 : tie.Need-slice-aggregate-line-3
 slice-aggregate-line-3 c = search needs
 
 slice-aggregate-line-4 : tie.Need-slice-aggregate-line-4
 slice-aggregate-line-4 c = search needs
+
+returns-2 : tie.Need-returns-2
+unfolding tailLine
+returns-2 c =
+    let f = c .before .before .before .before .before .before .before in
+    let a = f .before .before .before .args in
+    let t = cut table16b (drop 152 (unpack (a .sheet .now))) in
+    let w = f .field .ensures ∙ tail-at (a .sheet .now) 152 (omega arith) in
+    rw (ne-eqb (tailWidth t) 0 (λ z. c .before .before .before .before .before .before .if1 .left (w ∙ z)), sym w) (c .before .before .line2 .ensures)
 
 line-requires-2 : tie.Need-line-requires-2
 unfolding tailLine
@@ -64,15 +72,6 @@ line-requires-2 c κs =
 
 same-length-2 : tie.Need-same-length-2
 same-length-2 c = search needs
-
-returns-2 : tie.Need-returns-2
-unfolding tailLine
-returns-2 c =
-    let f = c .before .before .before .before .before .before .before in
-    let a = f .before .before .before .args in
-    let t = cut table16b (drop 152 (unpack (a .sheet .now))) in
-    let w = f .field .ensures ∙ tail-at (a .sheet .now) 152 (omega arith) in
-    rw (ne-eqb (tailWidth t) 0 (λ z. c .before .before .before .before .before .before .if1 .left (w ∙ z)), sym w) (c .before .before .line2 .ensures)
 
 pub tail-spec : {M : Type 1} → statement M
 tail-spec =

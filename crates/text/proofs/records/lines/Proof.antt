@@ -1,4 +1,4 @@
--- `text::records::list` meets its contract: the lines stand one behind the other. Assumes nothing.
+-- `text::records::lines` meets its contract: the lines stand one behind the other. Assumes nothing.
 use mathlib.Core.List.{_++_}
 use native.Mathlib.Omega.{arith}
 use borrow.Author.Needs.{needs}
@@ -9,10 +9,10 @@ use Rattle.text.specs.Words.{filled}
 use Rattle.text.specs.Listing.{multiplexLine, pipeLines, tailLine, accepted}
 use Rattle.text.proofs.Puts.{put-more}
 use Rattle.text.proofs.Lines.{accepted-length}
-use Rattle.text.proofs.records.list.Statement.{statement}
-use Rattle.text.proofs.records.list.Tie as tie
-use Rattle.text.proofs.records.list.Reads as reads
-use Rattle.text.proofs.records.list.Lts as lts
+use Rattle.text.proofs.records.lines.Statement.{statement}
+use Rattle.text.proofs.records.lines.Tie as tie
+use Rattle.text.proofs.records.lines.Reads as reads
+use Rattle.text.proofs.records.lines.Lts as lts
 use Rattle.text.proofs.put.line.Reads as line-reads
 use Rattle.text.proofs.records.multiplex.Reads as multiplex-reads
 use Rattle.text.proofs.records.pipes.Reads as pipes-reads
@@ -78,8 +78,8 @@ returns c =
     (t .tail .ensures))
     (k .line .ensures)
 
-pub list-spec : {M : Type 1} → statement M
-list-spec =
+pub lines-spec : {M : Type 1} → statement M
+lines-spec =
     tie.close
     (tie.spec
     multiplex-requires
