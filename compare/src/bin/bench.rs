@@ -5,7 +5,9 @@ use compare::inputs::infoword;
 use compare::opl;
 use compare::rng::Rng;
 use compare::second::turbo::Encoder;
+use std::env::consts::ARCH;
 use std::hint::black_box;
+use std::process::exit;
 use std::time::{Duration, Instant};
 
 /// The pattern and the bytes of the infoword.
@@ -15,10 +17,12 @@ const ROUNDS: usize = 300;
 
 fn main() {
     if opl::BRIDGED {
-        println!("The library runs under an emulator here and is called through a pipe: its times mean nothing,");
-        println!("and no ratio is given. Run this on an x86-64 machine.");
+        eprintln!(
+            "bench: the library would run under an emulator, whose times mean nothing: run `make bench`"
+        );
+        exit(2);
     }
-    println!("Best of {ROUNDS} rounds, in microseconds:");
+    println!("Compiled for {ARCH}. Best of {ROUNDS} rounds, in microseconds:");
     println!("pattern   block   opl_encode   second   ratio");
     let encoder = Encoder::new();
     let mut rng = Rng::new(1);
@@ -35,13 +39,8 @@ fn main() {
             assert!(one == other, "the codewords under pattern {pattern} differ");
         }
         let [library, second] = [library, second].map(|time| time.as_secs_f64() * 1e6);
-        let ratio = if opl::BRIDGED {
-            "-".to_string()
-        } else {
-            format!("{:.2}", library / second)
-        };
-        let block = 8 * n - 6;
-        println!("{pattern:>7} {block:>7} {library:>12.1} {second:>8.1} {ratio:>7}");
+        let (block, ratio) = (8 * n - 6, library / second);
+        println!("{pattern:>7} {block:>7} {library:>12.1} {second:>8.1} {ratio:>7.2}");
     }
 }
 

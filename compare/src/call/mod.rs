@@ -1,18 +1,18 @@
 //! A call of the library: the C function's name, its numbers in order, its buffers in order. Where this
-//! program is for x86-64, as the library is, it calls the function itself; elsewhere through bridge.c.
+//! program is for the same machine as the library, it calls the function itself; elsewhere through bridge.c.
 
-#[cfg(not(target_arch = "x86_64"))]
+#[cfg(bridged)]
 mod bridge;
-#[cfg(target_arch = "x86_64")]
+#[cfg(not(bridged))]
 mod direct;
 
-#[cfg(not(target_arch = "x86_64"))]
+#[cfg(bridged)]
 pub use bridge::call;
-#[cfg(target_arch = "x86_64")]
+#[cfg(not(bridged))]
 pub use direct::call;
 
 /// Whether calls go through bridge.c, and so through an emulator and a pipe.
-pub const BRIDGED: bool = cfg!(not(target_arch = "x86_64"));
+pub const BRIDGED: bool = cfg!(bridged);
 
 /// Memory with a part in it that is lent.
 pub trait Memory {
