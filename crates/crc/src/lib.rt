@@ -21,7 +21,7 @@ fn top_of(width: u32) -> u32
     1 << (width - 1)
 }
 
-// The register over the n bits at a place, for any width and polynomial; the bits past the end are zeros.
+// The CRC over the n bits at a place, for any width and polynomial; the bits past the end are zeros.
 fn crc(word: &[u8], at: usize, n: usize, width: u32, poly: u32) -> u32
     requires { ⌜ (0 < width) × (width ≤ 16) × (poly < 2 ^ width) ⌝ }
     ensures { λ x. ⌜ x ≡ crcOf width poly (tab (bitAt (now (word .entry))) at n) ⌝ }

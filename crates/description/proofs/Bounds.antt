@@ -10,7 +10,7 @@ use lib.Dec.{eqb}
 use lib.ListN.{length, getD}
 use Rattle.ground.specs.Choice.{choose}
 use Rattle.description.specs.Rows.{Each, total, Row}
-use Rattle.description.specs.Fields.{table16, pipeWidth, numSts, numSections}
+use Rattle.description.specs.Fields.{table16, pipeWidth, numSts1, numDisperserSections1}
 use Rattle.description.specs.Description.{Lists, ownStreams, ownSections, tailOwns, streamCount, sectionCount}
 use Rattle.description.specs.Rules.{size}
 use Rattle.description.specs.Sheet.{sheetEnd}
@@ -21,7 +21,7 @@ use Rattle.description.proofs.Tests.{lists-clear}
 use Rattle.description.proofs.Rows.{row-at}
 
 -- the count fields of a record have 5 and 3 bits
-fields-small : (f : List ℕ) → Row table16 f → (numSts f < 32) × (numSections f < 8)
+fields-small : (f : List ℕ) → Row table16 f → (numSts1 f < 32) × (numDisperserSections1 f < 8)
 fields-small f r = (row-at table16 f 2 r (omega arith), row-at table16 f 3 r (omega arith))
 
 -- a pipe that owns streams owns sections, and the other way round; neither is more than its field can say
@@ -30,9 +30,9 @@ pub own-bounds : (f : List ℕ) → Row table16 f
 unfolding ownStreams ownSections
 own-bounds f r = let s = fields-small f r in go (eqb (pipeWidth f) 0) (s .0) (s .1)
   where
-    go : (t : Bool) → numSts f < 32 → numSections f < 8
-        → (choose t 0 (numSts f + 1) ≤ 32) × (choose t 0 (numSections f + 1) ≤ 8)
-        × (choose t 0 (numSts f + 1) ≤ 32 * choose t 0 (numSections f + 1)) × (choose t 0 (numSections f + 1) ≤ 8 * choose t 0 (numSts f + 1))
+    go : (t : Bool) → numSts1 f < 32 → numDisperserSections1 f < 8
+        → (choose t 0 (numSts1 f + 1) ≤ 32) × (choose t 0 (numDisperserSections1 f + 1) ≤ 8)
+        × (choose t 0 (numSts1 f + 1) ≤ 32 * choose t 0 (numDisperserSections1 f + 1)) × (choose t 0 (numDisperserSections1 f + 1) ≤ 8 * choose t 0 (numSts1 f + 1))
     go true a b = (omega arith, omega arith, omega arith, omega arith)
     go false a b = (omega arith, omega arith, omega arith, omega arith)
 

@@ -8,7 +8,7 @@ use native.Mathlib.Omega.{arith}
 use lib.ListN.{length, getD, take, drop, length-append, length-take, length-drop, take-append-drop}
 use lib.Seq.{take-at, drop-at, take-add, length-take-le, take-all}
 use Rattle.description.specs.Rows.{Each, total}
-use Rattle.description.specs.Fields.{numPipes}
+use Rattle.description.specs.Fields.{numPipes1}
 use Rattle.description.specs.Description.{Pipe, Description, Lists, ownStreams, ownSections, tailOwns, recordsOf, streamsOf, sectionsOf, listsOf, deal, describe, streamCount, sectionCount}
 
 -- ---- a list dealt
@@ -69,13 +69,13 @@ records-length (p ∷ ps) = ap suc (records-length ps)
 
 -- the lists are as long as the records say
 pub record Counted (l : Lists) : Type 0 where
-  pub pipes : length (l .pipes) ≡ numPipes (l .multiplex)
+  pub pipes : length (l .pipes) ≡ numPipes1 (l .multiplex)
   pub streams : length (l .streams) ≡ streamCount (l .pipes) (l .tail)
   pub sections : length (l .sections) ≡ sectionCount (l .pipes)
 
 -- the same of a description
 pub record Sized (d : Description) : Type 0 where
-  pub pipes : length (d .pipes) ≡ numPipes (d .multiplex)
+  pub pipes : length (d .pipes) ≡ numPipes1 (d .multiplex)
   pub each : Each Owns (d .pipes)
   pub tail : length (d .tailStreams) ≡ tailOwns (d .tail)
 

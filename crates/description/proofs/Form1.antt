@@ -15,7 +15,7 @@ use Rattle.ground.proofs.Choice.{either-false, neither, clear-all}
 use Rattle.bits.specs.Lists.{Below, unpack, pack}
 use Rattle.bits.proofs.Lists.{unpack-length, unpack-append, unpack-pack, pack-length}
 use Rattle.description.specs.Rows.{Each, width, Row, join, cut, joins, cuts}
-use Rattle.description.specs.Fields.{table15, table16, table16b, table18, table19, stsId, numTaps}
+use Rattle.description.specs.Fields.{table15, table16, table16b, table18, table19, stsId, numTapsDiv2}
 use Rattle.description.specs.Description.{Lists}
 use Rattle.description.specs.Sheet.{inSheet, streamsFrom, sectionsFrom, sheetEnd, header, records, sheetOf}
 use Rattle.description.specs.Tests.{versionFault, anySet, widthFault, tapFault, idFault}
@@ -196,6 +196,6 @@ module _ (l : Lists) where
         ap (countFault p s d) lists-sheet
         ∙ neither (ap not (eq-eqb p _ (c .pipes))) (neither (ap not (eq-eqb s _ (c .streams))) (ap not (eq-eqb d _ (c .sections)))) in
         let widths = ap (λ (x : Lists). widthFault (x .pipes)) lists-sheet ∙ k .widths in
-        let tapped = ap (λ (x : Lists). tapFault (x .pipes) (map numTaps (x .sections))) lists-sheet ∙ k .tapped in
+        let tapped = ap (λ (x : Lists). tapFault (x .pipes) (map numTapsDiv2 (x .sections))) lists-sheet ∙ k .tapped in
         let unique = ap (λ (x : Lists). idFault (map stsId (x .streams))) lists-sheet ∙ k .unique in
         clear-all (sheetFaults (sheetOf l)) (header-sheet, (top, (version, (count, (k .fits, (widths, (tapped, (unique, tt))))))))

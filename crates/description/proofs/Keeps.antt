@@ -6,7 +6,7 @@ use mathlib.Core.Bool.{Bool, false}
 use mathlib.Core.List.{List, [], _∷_, _++_, map}
 use lib.ListN.{length, length-append}
 use Rattle.description.specs.Rows.{Each, Row}
-use Rattle.description.specs.Fields.{table16, table18, table19, stsId, numTaps}
+use Rattle.description.specs.Fields.{table16, table18, table19, stsId, numTapsDiv2}
 use Rattle.description.specs.Description.{Pipe, Description, Lists, recordsOf, streamsOf, sectionsOf, listsOf}
 use Rattle.description.specs.Rules.{PipeKeeps, Keeps, size}
 use Rattle.description.specs.Tests.{versionFault, listsFault, widthFault, tapFault, idFault}
@@ -20,7 +20,7 @@ pub record Clean (l : Lists) : Type 0 where
   pub version : versionFault (l .multiplex) ≡ false
   pub fits : listsFault (length (l .pipes)) (length (l .streams)) (length (l .sections)) ≡ false
   pub widths : widthFault (l .pipes) ≡ false
-  pub tapped : tapFault (l .pipes) (map numTaps (l .sections)) ≡ false
+  pub tapped : tapFault (l .pipes) (map numTapsDiv2 (l .sections)) ≡ false
   pub unique : idFault (map stsId (l .streams)) ≡ false
 
 -- ---- what the rules of each pipe say of the lists

@@ -17,7 +17,7 @@ use Rattle.bits.specs.Lists.{Below, unpack, pack}
 use Rattle.bits.proofs.Below.{below-drop, below-append, below-get}
 use Rattle.bits.proofs.Lists.{unpack-length, unpack-below, unpack-drop, unpack-inj, pack-below}
 use Rattle.description.specs.Rows.{Each, width, Row, join, joins, cuts}
-use Rattle.description.specs.Fields.{table15, table16, table16b, table18, table19, numPipes}
+use Rattle.description.specs.Fields.{table15, table16, table16b, table18, table19, numPipes1}
 use Rattle.description.specs.Description.{Lists, streamCount}
 use Rattle.description.specs.Sheet.{two, inSheet, pipesFrom, streamsFrom, sectionsFrom, sheetEnd, header, records, sheetOf}
 use Rattle.description.specs.Tests.{listsFault}
@@ -154,7 +154,7 @@ module _ (sh : List ℕ) where
     counted-stated =
         let l : Lists = listsStated sh in
         let e = all-clear (sheetFaults sh) tt h .1 .1 .1 .0 in
-        let a1 = either-false (not (eqb p (numPipes (l .multiplex)))) _ e in
+        let a1 = either-false (not (eqb p (numPipes1 (l .multiplex)))) _ e in
         let a2 = either-false (not (eqb s (streamCount (l .pipes) (l .tail)))) _ (a1 .1) in
         record {
           pipes = pipes-long ∙ is _ _ (a1 .0);

@@ -16,7 +16,7 @@ use Rattle.bits.proofs.Below.{below-take, below-drop, below-append}
 use Rattle.bits.proofs.Lists.{bits-num, num-bits, bits-length, bits-below}
 use Rattle.crc.specs.Crc.{crcOf}
 use Rattle.crc.proofs.Laws.{crc-lt}
-use Rattle.description.specs.Fields.{stsId, numTaps}
+use Rattle.description.specs.Fields.{stsId, numTapsDiv2}
 use Rattle.description.specs.Description.{Lists}
 use Rattle.description.specs.Rules.{size}
 use Rattle.description.specs.Layout.{body, padded, sealed}

@@ -15,7 +15,7 @@ use Rattle.ground.specs.Choice.{both, either, any}
 use Rattle.ground.proofs.Choice.{either-false, neither, both-false, both-first, both-second}
 use Rattle.patterns.specs.Rates.{unitsOf}
 use Rattle.description.specs.Rows.{Each, total}
-use Rattle.description.specs.Fields.{sigPipeVer, punctPat, pipeWidth, numTaps}
+use Rattle.description.specs.Fields.{sigPipeVer, punctPat, pipeWidth, numTapsDiv2}
 use Rattle.description.specs.Description.{Pipe, ownSections, recordsOf, sectionsOf}
 use Rattle.description.specs.Rules.{Multiple, Distinct, size, taps}
 use Rattle.description.specs.Tests.{versionFault, listsFault, anySet, widthWrong, widthFault, tapsWrong, tapFault, member, idFault}
@@ -93,22 +93,22 @@ clear-widths (f ∷ fs) h = neither (right-width f (h .0)) (clear-widths fs (h .
 abbrev pub Tapped : Pipe → Type 0
 Tapped p = 0 < pipeWidth (p .fields) → total taps (p .sections) ≡ 32
 
-taps-right : (p : Pipe) → tapsWrong (p .fields) (map numTaps (p .sections)) ≡ false → Tapped p
+taps-right : (p : Pipe) → tapsWrong (p .fields) (map numTapsDiv2 (p .sections)) ≡ false → Tapped p
 unfolding tapsWrong
 taps-right p e u =
-    let ts : List ℕ = map numTaps (p .sections) in
+    let ts : List ℕ = map numTapsDiv2 (p .sections) in
     let n : not (eqb (pipeWidth (p .fields)) 0) ≡ true = ap not (ne-eqb (pipeWidth (p .fields)) 0 (λ z. omega arith)) in
-    sym (total-map numTaps (λ k. (k + 1) * 2) (p .sections))
+    sym (total-map numTapsDiv2 (λ k. (k + 1) * 2) (p .sections))
     ∙ eqb-true (total (λ k. (k + 1) * 2) ts) 32
     (not-false (eqb (total (λ k. (k + 1) * 2) ts) 32) (both-false (not (eqb (pipeWidth (p .fields)) 0)) (not (eqb (total (λ k. (k + 1) * 2) ts) 32)) e n))
 
-right-taps : (p : Pipe) → Tapped p → tapsWrong (p .fields) (map numTaps (p .sections)) ≡ false
+right-taps : (p : Pipe) → Tapped p → tapsWrong (p .fields) (map numTapsDiv2 (p .sections)) ≡ false
 unfolding tapsWrong
 right-taps p h =
     elim (decLt 0 (pipeWidth (p .fields))) [
       | yes u ↦ both-second (not (eqb (pipeWidth (p .fields)) 0))
-          (not-is (eq-eqb (total (λ k. (k + 1) * 2) (map numTaps (p .sections))) 32 (total-map numTaps (λ k. (k + 1) * 2) (p .sections) ∙ h u)))
-      | no u ↦ both-first (not (eqb (total (λ k. (k + 1) * 2) (map numTaps (p .sections))) 32)) (not-is (eq-eqb (pipeWidth (p .fields)) 0 (omega arith)))
+          (not-is (eq-eqb (total (λ k. (k + 1) * 2) (map numTapsDiv2 (p .sections))) 32 (total-map numTapsDiv2 (λ k. (k + 1) * 2) (p .sections) ∙ h u)))
+      | no u ↦ both-first (not (eqb (total (λ k. (k + 1) * 2) (map numTapsDiv2 (p .sections))) 32)) (not-is (eq-eqb (pipeWidth (p .fields)) 0 (omega arith)))
     ]
 
 map-append : (f : List ℕ → ℕ) (a b : List (List ℕ)) → map f (a ++ b) ≡ map f a ++ map f b
@@ -117,23 +117,23 @@ map-append f (x ∷ a) b = ap (λ (l : List ℕ). f x ∷ l) (map-append f a b)
 
 -- what is dealt to the first pipe, and what is left
 taps-step : (p : Pipe) (ps : List Pipe) → Owns p
-    → tapFault (recordsOf (p ∷ ps)) (map numTaps (sectionsOf (p ∷ ps)))
-    ≡ either (tapsWrong (p .fields) (map numTaps (p .sections))) (tapFault (recordsOf ps) (map numTaps (sectionsOf ps)))
+    → tapFault (recordsOf (p ∷ ps)) (map numTapsDiv2 (sectionsOf (p ∷ ps)))
+    ≡ either (tapsWrong (p .fields) (map numTapsDiv2 (p .sections))) (tapFault (recordsOf ps) (map numTapsDiv2 (sectionsOf ps)))
 unfolding tapFault recordsOf sectionsOf
 taps-step p ps o =
-    let n : length (map numTaps (p .sections)) ≡ ownSections (p .fields) = length-map (p .sections) numTaps ∙ o .sections in
-    let a : List ℕ = map numTaps (p .sections) in
-    let b : List ℕ = map numTaps (sectionsOf ps) in
-    ap (λ (l : List ℕ). either (tapsWrong (p .fields) (take (ownSections (p .fields)) l)) (tapFault (recordsOf ps) (drop (ownSections (p .fields)) l))) (map-append numTaps (p .sections) (sectionsOf ps))
+    let n : length (map numTapsDiv2 (p .sections)) ≡ ownSections (p .fields) = length-map (p .sections) numTapsDiv2 ∙ o .sections in
+    let a : List ℕ = map numTapsDiv2 (p .sections) in
+    let b : List ℕ = map numTapsDiv2 (sectionsOf ps) in
+    ap (λ (l : List ℕ). either (tapsWrong (p .fields) (take (ownSections (p .fields)) l)) (tapFault (recordsOf ps) (drop (ownSections (p .fields)) l))) (map-append numTapsDiv2 (p .sections) (sectionsOf ps))
     ∙ ap₂ (λ (x y : List ℕ). either (tapsWrong (p .fields) x) (tapFault (recordsOf ps) y)) (take-at a b (ownSections (p .fields)) n) (drop-at a b (ownSections (p .fields)) n)
 
-pub taps-clear : (ps : List Pipe) → Each Owns ps → tapFault (recordsOf ps) (map numTaps (sectionsOf ps)) ≡ false → Each Tapped ps
+pub taps-clear : (ps : List Pipe) → Each Owns ps → tapFault (recordsOf ps) (map numTapsDiv2 (sectionsOf ps)) ≡ false → Each Tapped ps
 taps-clear [] o e = tt
 taps-clear (p ∷ ps) o e =
-    let h = either-false (tapsWrong (p .fields) (map numTaps (p .sections))) (tapFault (recordsOf ps) (map numTaps (sectionsOf ps))) (sym (taps-step p ps (o .0)) ∙ e) in
+    let h = either-false (tapsWrong (p .fields) (map numTapsDiv2 (p .sections))) (tapFault (recordsOf ps) (map numTapsDiv2 (sectionsOf ps))) (sym (taps-step p ps (o .0)) ∙ e) in
     (taps-right p (h .0), taps-clear ps (o .1) (h .1))
 
-pub clear-taps : (ps : List Pipe) → Each Owns ps → Each Tapped ps → tapFault (recordsOf ps) (map numTaps (sectionsOf ps)) ≡ false
+pub clear-taps : (ps : List Pipe) → Each Owns ps → Each Tapped ps → tapFault (recordsOf ps) (map numTapsDiv2 (sectionsOf ps)) ≡ false
 unfolding tapFault recordsOf
 clear-taps [] o h = refl
 clear-taps (p ∷ ps) o h = taps-step p ps (o .0) ∙ neither (right-taps p (h .0)) (clear-taps ps (o .1) (h .1))

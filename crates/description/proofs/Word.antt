@@ -10,7 +10,7 @@ use lib.Seq.{take-at, drop-at, drop-drop, take-add}
 use Rattle.bits.specs.Lists.{Below}
 use Rattle.bits.proofs.Below.{below-drop, below-append}
 use Rattle.description.specs.Rows.{Each, total, width, join, cut, Row, joins, cuts}
-use Rattle.description.specs.Fields.{table15, table16, table16b, table18, table19, numPipes}
+use Rattle.description.specs.Fields.{table15, table16, table16b, table18, table19, numPipes1}
 use Rattle.description.specs.Description.{Lists, streamCount, sectionCount}
 use Rattle.description.specs.Rules.{size}
 use Rattle.description.specs.Layout.{body}

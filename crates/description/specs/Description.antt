@@ -6,7 +6,7 @@ use lib.Dec.{eqb}
 use lib.ListN.{take, drop}
 use Rattle.ground.specs.Choice.{choose}
 use Rattle.description.specs.Rows.{total}
-use Rattle.description.specs.Fields.{pipeWidth, numSts, numSections, tailWidth}
+use Rattle.description.specs.Fields.{pipeWidth, numSts1, numDisperserSections1, tailWidth}
 
 -- a payload pipe: its record, the streams and the sections that it owns
 pub record Pipe : Type 0 where
@@ -20,14 +20,14 @@ pub record Description : Type 0 where
   pub tail : List ℕ
   pub tailStreams : List (List ℕ)
 
--- ---- who owns what (clause 4.10.3, tables 16 and 16b): a pipe of width 0 owns nothing, whatever its count fields say
+-- ---- who owns what: streams by clause 4.10.3, sections by clause 4.10.7 (tables 16 and 16b say the same). A pipe of width 0 owns nothing, whatever its count fields say
 
 -- Num_STS_1 + 1 streams and Num_Disperser_Sections_1 + 1 sections of a payload pipe in use
 unfoldable pub ownStreams : List ℕ → ℕ
-ownStreams f = choose (eqb (pipeWidth f) 0) 0 (numSts f + 1)
+ownStreams f = choose (eqb (pipeWidth f) 0) 0 (numSts1 f + 1)
 
 unfoldable pub ownSections : List ℕ → ℕ
-ownSections f = choose (eqb (pipeWidth f) 0) 0 (numSections f + 1)
+ownSections f = choose (eqb (pipeWidth f) 0) 0 (numDisperserSections1 f + 1)
 
 -- one stream of a tail pipe in use; it never owns a section (clause 4.10.8)
 unfoldable pub tailOwns : List ℕ → ℕ
@@ -54,7 +54,7 @@ unfoldable pub sectionsOf : List Pipe → List (List ℕ)
 sectionsOf [] = []
 sectionsOf (p ∷ ps) = p .sections ++ sectionsOf ps
 
--- streams stand in order of pipe, the tail's last; sections in order of pipe
+-- streams stand in order of pipe, the tail's last (clause 4.10.3); sections in order of pipe (table 14)
 unfoldable pub listsOf : Description → Lists
 listsOf d = record {
   multiplex = d .multiplex;

@@ -1,4 +1,4 @@
--- A sheet of form 1 read: its header, the lists that stand in it, and its refusals in the order from sheet to word.
+-- A sheet read (form 1, the form of document 01): its header, the lists that stand in it, and its refusals in the order from sheet to word.
 -- Assumes nothing.
 use Prim.Native.Nat.{ℕ, _+_, _*_}
 use mathlib.Core.Bool.{Bool, not}
@@ -9,7 +9,7 @@ use Rattle.ground.specs.Outcome.{Outcome, Told}
 use Rattle.ground.specs.Choice.{choose, either, any, Fault, refuse, firstOf}
 use Rattle.bits.specs.Lists.{unpack, pack}
 use Rattle.description.specs.Rows.{cut, cuts}
-use Rattle.description.specs.Fields.{table15, table16, table16b, table18, table19, numPipes, stsId, numTaps}
+use Rattle.description.specs.Fields.{table15, table16, table16b, table18, table19, numPipes1, stsId, numTapsDiv2}
 use Rattle.description.specs.Description.{Lists, streamCount, sectionCount}
 use Rattle.description.specs.Layout.{body, padded, sealed}
 use Rattle.description.specs.Sheet.{pipesFrom, streamsFrom, sectionsFrom, sheetEnd}
@@ -51,6 +51,7 @@ bare (r ∷ rs) = drop 1 r ∷ bare rs
 unfoldable pub sheetSections : ℕ → ℕ → ℕ → List ℕ → List (List ℕ)
 sheetSections p s d b = cuts (4 ∷ table19) d (drop (8 * sectionsFrom 12 p s) b)
 
+-- the multiplex stands behind the header, at byte 12, and the tail behind the multiplex, at byte 19
 unfoldable pub sheetLists : ℕ → ℕ → ℕ → List ℕ → Lists
 sheetLists p s d b = record {
   multiplex = cut table15 (drop 96 b);
@@ -72,7 +73,7 @@ topFault sh = anySet (map (λ r. getD r 0 0) (sheetSections (pStated sh) (sState
 -- 13: the header's counts differ from what the records say
 unfoldable pub countFault : ℕ → ℕ → ℕ → Lists → Bool
 countFault p s d l =
-    either (not (eqb p (numPipes (l .multiplex))))
+    either (not (eqb p (numPipes1 (l .multiplex))))
     (either (not (eqb s (streamCount (l .pipes) (l .tail)))) (not (eqb d (sectionCount (l .pipes)))))
 
 unfoldable pub sheetFaults : List ℕ → List Fault
@@ -83,7 +84,7 @@ sheetFaults sh =
     refuse 13 (countFault (pStated sh) (sStated sh) (dStated sh) (listsStated sh)) ∷
     refuse 7 (listsFault (pStated sh) (sStated sh) (dStated sh)) ∷
     refuse 9 (widthFault (listsStated sh .pipes)) ∷
-    refuse 10 (tapFault (listsStated sh .pipes) (map numTaps (listsStated sh .sections))) ∷
+    refuse 10 (tapFault (listsStated sh .pipes) (map numTapsDiv2 (listsStated sh .sections))) ∷
     refuse 11 (idFault (map stsId (listsStated sh .streams))) ∷ []
 
 -- what the check of a sheet says: the counts, or the first refusal

@@ -17,7 +17,8 @@ abbrev pub inSheet : List (List ℕ) → List (List ℕ)
 inSheet [] = []
 inSheet (r ∷ rs) = (0 ∷ r) ∷ inSheet rs
 
--- where the tables begin, behind a header of h bytes, 7 bytes of multiplex and 2 of tail; the last is the whole length
+-- where the tables begin, behind a header of h bytes, 7 bytes of multiplex and 2 of tail; the last is the whole length. With h = 12 these are 01's
+-- 21, 21 + 6p, 21 + 6p + 2s and 21 + 6p + 2s + 2d
 abbrev pub pipesFrom : ℕ → ℕ
 pipesFrom h = h + 9
 
@@ -30,7 +31,7 @@ sectionsFrom h p s = h + 9 + 6 * p + 2 * s
 abbrev pub sheetEnd : ℕ → ℕ → ℕ → ℕ → ℕ
 sheetEnd h p s d = h + 9 + 6 * p + 2 * s + 2 * d
 
--- the header of form 1, 12 bytes: the counts, a zero byte, the offsets of the tables, the whole length
+-- the header, 12 bytes (form 1; 02 brings a second): the counts, a zero byte, the offsets of the tables, the whole length
 unfoldable pub header : ℕ → ℕ → ℕ → List ℕ
 header p s d =
     p ∷ s ∷ d ∷ 0 ∷

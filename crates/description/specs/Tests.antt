@@ -27,7 +27,7 @@ isSet b = not (eqb b 0)
 unfoldable pub anySet : List ℕ → Bool
 anySet l = any isSet l
 
--- 9: of some payload pipe in use with a pattern 0 to 27 the width is no multiple
+-- 9: of some payload pipe in use with a pattern 0 to 27 the width is no multiple; the width 0, of a pipe that is not in use, always is one
 unfoldable pub widthWrong : List ℕ → Bool
 widthWrong f = both (ltb (punctPat f) 28) (not (eqb (pipeWidth f % unitsOf (punctPat f)) 0))
 

@@ -10,7 +10,7 @@ use Rattle.ground.specs.Choice.{choose, either, Fault, refuse, firstOf}
 use Rattle.bits.specs.Lists.{num, unpack}
 use Rattle.crc.specs.Crc.{crcOf}
 use Rattle.description.specs.Rows.{cut, cuts}
-use Rattle.description.specs.Fields.{table15, table16, table16b, table18, table19, numPipes, stsId, numTaps}
+use Rattle.description.specs.Fields.{table15, table16, table16b, table18, table19, numPipes1, stsId, numTapsDiv2}
 use Rattle.description.specs.Description.{Lists, streamCount, sectionCount}
 use Rattle.description.specs.Rules.{size}
 use Rattle.description.specs.Sheet.{sheetOf}
@@ -23,7 +23,7 @@ multiplexIn b = cut table15 b
 
 -- p, s and d follow from the multiplex fields, the tail and the pipe records
 unfoldable pub pIn : List ℕ → ℕ
-pIn b = numPipes (multiplexIn b)
+pIn b = numPipes1 (multiplexIn b)
 
 unfoldable pub pipesIn : List ℕ → List (List ℕ)
 pipesIn b = cuts table16 (pIn b) (drop 56 b)
@@ -68,7 +68,7 @@ wordFaults b =
     refuse 7 (listsFault (pIn b) (sIn b) (dIn b)) ∷
     refuse 8 (paddingFault b) ∷
     refuse 9 (widthFault (pipesIn b)) ∷
-    refuse 10 (tapFault (pipesIn b) (map numTaps (sectionsIn b))) ∷
+    refuse 10 (tapFault (pipesIn b) (map numTapsDiv2 (sectionsIn b))) ∷
     refuse 11 (idFault (map stsId (streamsIn b))) ∷ []
 
 -- 1: the word is not 96 bytes, or the room is below 128

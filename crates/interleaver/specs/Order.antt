@@ -11,16 +11,21 @@ use Rattle.ground.specs.Choice.{choose}
 unfoldable pub parameter : ℕ → ℕ
 parameter N = choose (eqb N 12282) 9 5
 
--- table 10, by its index
+-- table 10, by its index, for n = 5 and for n = 9. The source runs neighbouring cells together; 3GPP2 C.S0002, whose interleaver it is, decides
+-- (docs/DECISIONS.md, 14)
 unfoldable pub entries5 : List ℕ
 entries5 =
-    27 ∷ 3 ∷ 1 ∷ 15 ∷ 13 ∷ 17 ∷ 23 ∷ 13 ∷ 9 ∷ 3 ∷ 15 ∷ 3 ∷ 13 ∷ 1 ∷ 13 ∷ 29 ∷
-    21 ∷ 19 ∷ 1 ∷ 3 ∷ 29 ∷ 17 ∷ 25 ∷ 29 ∷ 9 ∷ 13 ∷ 23 ∷ 13 ∷ 13 ∷ 1 ∷ 13 ∷ 13 ∷ []
+    27 ∷ 3 ∷ 1 ∷ 15 ∷ 13 ∷ 17 ∷ 23 ∷ 13 ∷  -- 0 to 7
+    9 ∷ 3 ∷ 15 ∷ 3 ∷ 13 ∷ 1 ∷ 13 ∷ 29 ∷  -- 8 to 15
+    21 ∷ 19 ∷ 1 ∷ 3 ∷ 29 ∷ 17 ∷ 25 ∷ 29 ∷  -- 16 to 23
+    9 ∷ 13 ∷ 23 ∷ 13 ∷ 13 ∷ 1 ∷ 13 ∷ 13 ∷ []  -- 24 to 31
 
 unfoldable pub entries9 : List ℕ
 entries9 =
-    13 ∷ 335 ∷ 87 ∷ 15 ∷ 15 ∷ 1 ∷ 333 ∷ 11 ∷ 13 ∷ 1 ∷ 121 ∷ 155 ∷ 1 ∷ 175 ∷ 421 ∷ 5 ∷
-    509 ∷ 215 ∷ 47 ∷ 425 ∷ 295 ∷ 229 ∷ 427 ∷ 83 ∷ 409 ∷ 387 ∷ 193 ∷ 57 ∷ 501 ∷ 313 ∷ 489 ∷ 391 ∷ []
+    13 ∷ 335 ∷ 87 ∷ 15 ∷ 15 ∷ 1 ∷ 333 ∷ 11 ∷  -- 0 to 7
+    13 ∷ 1 ∷ 121 ∷ 155 ∷ 1 ∷ 175 ∷ 421 ∷ 5 ∷  -- 8 to 15
+    509 ∷ 215 ∷ 47 ∷ 425 ∷ 295 ∷ 229 ∷ 427 ∷ 83 ∷  -- 16 to 23
+    409 ∷ 387 ∷ 193 ∷ 57 ∷ 501 ∷ 313 ∷ 489 ∷ 391 ∷ []  -- 24 to 31
 
 unfoldable pub entry : ℕ → ℕ → ℕ
 entry n k = getD (choose (eqb n 9) entries9 entries5) k 0

@@ -1,4 +1,4 @@
--- The blocks that there are, and the patterns that each is coded under (clauses 4.4.1 and 4.4.2).
+-- The blocks that there are, and the patterns that each is coded under (clauses 4.4.1, 4.4.2 and 4.4.8).
 -- Assumes nothing.
 use Prim.Native.Nat.{ℕ, _<_}
 use mathlib.Core.Path.{_≡_}

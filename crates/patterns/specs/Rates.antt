@@ -44,7 +44,7 @@ rates =
     over 6 7 ∷
     over 6 7 ∷ []
 
--- the rate of a pattern; a number above 27 names none, and has the rate 0 / 0
+-- the rate of a pattern; a number above 27 names none, and has the rate 0 / 0, by which a quotient is 0
 unfoldable pub rateOf : ℕ → Rate
 rateOf p = getD rates p (over 0 0)
 

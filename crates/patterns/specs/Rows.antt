@@ -104,8 +104,8 @@ dataGroup p i = let row : List ℕ = getD dataRows p [] in getD row (i % length 
 -- the tail group t: the first three have X Y0 Y1 of encoder 1 at their places 0 1 2, the last three X' Y'0 Y'1 of encoder 2 at 0 3 4 (clause 4.4.3)
 unfoldable pub tailGroup : ℕ → ℕ → ℕ
 tailGroup p t =
-    let e : ℕ = getD (getD tailRows p []) t 0 in
-    choose (ltb t 3) (e * 0o100) (e / 0o100 * 0o10000 + e % 0o100)
+    let triple : ℕ = getD (getD tailRows p []) t 0 in
+    choose (ltb t 3) (triple * 0o100) (triple / 0o100 * 0o10000 + triple % 0o100)
 
 -- the group i of a lane of n data groups and the six tail groups after them
 unfoldable pub groupAt : ℕ → ℕ → ℕ → ℕ

@@ -28,6 +28,6 @@ sent p n = spread (copies p n) (λ k. k) (places n)
 unfoldable pub sentFrom : ℕ → ℕ → ℕ → ℕ
 sentFrom p n k = getD (sent p n) k 0
 
--- the length of a codeword in bits: the block with its six tail periods, divided by the rate
+-- the length of a codeword in bits (clause 4.4.5): the block with its six tail periods, divided by the rate; 0 where there is no such pattern
 unfoldable pub codeLength : ℕ → ℕ → ℕ
 codeLength p n = (n + 6) * rateOf p .den / rateOf p .num

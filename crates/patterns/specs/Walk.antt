@@ -25,4 +25,4 @@ spaced x = x / 16 % 2 * 0o10000 + x / 8 % 2 * 0o1000 + x / 4 % 2 * 0o100 + x / 2
 unfoldable pub entryFrom : ℕ → ℕ → ℕ → ℕ
 entryFrom row tail j =
     choose (ltb j 12) (spaced (row / 2 ^ (55 - 5 * j) % 32))
-    (choose (ltb j 15) (tail / 2 ^ (9 * (17 - j)) % 512 * 64) (tail / 2 ^ (9 * (17 - j)) % 512 / 64 * 4096 + tail / 2 ^ (9 * (17 - j)) % 512 % 64))
+    (choose (ltb j 15) (tail / 2 ^ (9 * (17 - j)) % 0o1000 * 0o100) (tail / 2 ^ (9 * (17 - j)) % 0o1000 / 0o100 * 0o10000 + tail / 2 ^ (9 * (17 - j)) % 0o1000 % 0o100))

@@ -58,7 +58,7 @@ shown w = choose (eqb (readRefusal w) 0) (take (packetBytes (kindOf w)) w) []
 
 -- the header as the C interface has it: RFU as a 32-bit number, stream id, stream type, Encap_Ver, nine zero bytes
 unfoldable pub headerBytes : ℕ → ℕ → ℕ → ℕ → List ℕ
-headerBytes rfu id kind version = pack 4 (bits 32 rfu) ++ id ∷ kind ∷ version ∷ replicate 9 0
+headerBytes rfu id kind version = pack 4 (bits 32 rfu) ++ (id ∷ kind ∷ version ∷ replicate 9 0)
 
 -- the header read into 16 bytes: their length is looked at with the word's
 unfoldable pub readInto : List ℕ → List ℕ → Outcome ℕ (List ℕ)

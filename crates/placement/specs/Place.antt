@@ -1,4 +1,5 @@
--- Placement: each received value goes to the place of the encoder's output from which its code bit was sent.
+-- Placement (document 01, "Placement"; clauses 4.4.2, 4.4.3 and 4.4.5 the other way round): each received value goes to the place of the encoder's output from
+-- which its code bit was sent.
 -- Assumes nothing.
 use Prim.Native.Nat.{ℕ}
 use mathlib.Core.Bool.{not}

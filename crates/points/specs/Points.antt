@@ -2,7 +2,8 @@
 -- Assumes nothing.
 use Prim.Native.Nat.{ℕ, _+_}
 use mathlib.Core.List.{List, [], _∷_, _++_}
-use lib.ListN.{length, getD, take, drop, replicate}
+use lib.Dec.{ltb}
+use lib.ListN.{length, getD, take, replicate}
 use Rattle.ground.specs.Choice.{firstOf}
 use Rattle.ground.specs.Table.{tab}
 use Rattle.bits.specs.Lists.{pack}
@@ -15,7 +16,7 @@ use Rattle.description.specs.Rules.{size}
 use Rattle.description.specs.Sheet.{sheet}
 use Rattle.description.specs.Word.{pIn, sIn, dIn, wordFaults}
 use Rattle.description.specs.Form1.{sheetFaults}
-use Rattle.interleaver.specs.Order.{parameter, address, kept}
+use Rattle.interleaver.specs.Order.{parameter, address, keepIf}
 use Rattle.turbo.specs.Constituent.{y0, y1, state, clocked}
 use Rattle.turbo.specs.Lane.{tailSymbols1}
 
@@ -71,7 +72,7 @@ tailOf k = tab (λ t. getD (tailSymbols1 (clocked (record { a1 = 1; a2 = 0; a3 =
 
 -- what the counter value c adds to the order in which encoder 2 reads a block of N bits
 abbrev pub added : ℕ → ℕ → List ℕ
-added N c = let f : ℕ → ℕ = address (parameter N) in drop (length (kept f N c)) (kept f N (c + 1))
+added N c = let a : ℕ = address (parameter N) c in keepIf (ltb a N) a
 
 -- ---- the cases, in 01's words
 

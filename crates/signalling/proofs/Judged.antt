@@ -16,7 +16,7 @@ use Rattle.ground.proofs.Choice.{choose-true, choose-false, either-false, AllCl
 use Rattle.bits.specs.Lists.{unpack}
 use Rattle.bits.specs.Places.{fieldAt, fieldsAt}
 use Rattle.description.specs.Rows.{total, cuts}
-use Rattle.description.specs.Fields.{table16, stsId, numTaps, numPipes}
+use Rattle.description.specs.Fields.{table16, stsId, numTapsDiv2, numPipes1}
 use Rattle.description.specs.Description.{Lists, ownSections, streamCount, sectionCount}
 use Rattle.description.specs.Rules.{size}
 use Rattle.description.specs.Sheet.{sheetEnd}
@@ -64,7 +64,7 @@ module _ (sh : List ℕ) (right : headerFault sh ≡ false) (p s d : ℕ) (ep : 
   unfolding countFault sectionCount
   sections-own e =
       let l : Lists = sheetLists p s d (unpack sh) in
-      let a = either-false (not (eqb p (numPipes (l .multiplex)))) _ e in
+      let a = either-false (not (eqb p (numPipes1 (l .multiplex)))) _ e in
       let b = either-false (not (eqb s (streamCount (l .pipes) (l .tail)))) _ (a .1) in
       eqb-true d (total ownSections (l .pipes)) (not-false (eqb d (total ownSections (l .pipes))) (b .1)) ∙ ap (total ownSections) (sym (pipes-are sh p s d long-enough))
 
@@ -74,7 +74,7 @@ module _ (sh : List ℕ) (right : headerFault sh ≡ false) (p s d : ℕ) (ep : 
   unfolding sheetFaults
   judge≡ e =
       judge-said sh p s d long-enough e
-      ∙ ap (λ (l : Lists). judged (widthFault (l .pipes)) (tapFault (l .pipes) (map numTaps (l .sections))) (idFault (map stsId (l .streams)))) lists≡
+      ∙ ap (λ (l : Lists). judged (widthFault (l .pipes)) (tapFault (l .pipes) (map numTapsDiv2 (l .sections))) (idFault (map stsId (l .streams)))) lists≡
 
 -- ---- what they say together
 module _ (sh : List ℕ) where

@@ -18,7 +18,7 @@ use Rattle.bits.proofs.Lists.{unpack-below}
 use Rattle.bits.proofs.Below.{below-drop}
 use Rattle.bits.proofs.Places.{field-lt}
 use Rattle.description.specs.Rows.{width, total, cut, cuts}
-use Rattle.description.specs.Fields.{table16, table16b, punctPat, pipeWidth, numSts, numSections, tailWidth}
+use Rattle.description.specs.Fields.{table16, table16b, punctPat, pipeWidth, numSts1, numDisperserSections1, tailWidth}
 use Rattle.description.specs.Description.{ownStreams, ownSections, tailOwns}
 use Rattle.description.proofs.Each.{total-take}
 use Rattle.description.proofs.Rows.{offset, cuts-length, cut-row}
@@ -38,11 +38,11 @@ module _ (w : List ℕ) (at : ℕ) (room : at + 48 ≤ 8 * length w) where
   unfolding offset
   width-at = row-field table16 1 at w (lit< tt) (omega arith) (omega arith)
 
-  pub streams-at : fieldAt w (at + 16) 5 ≡ numSts (pipeAt w at)
+  pub streams-at : fieldAt w (at + 16) 5 ≡ numSts1 (pipeAt w at)
   unfolding offset
   streams-at = row-field table16 2 at w (lit< tt) (omega arith) (omega arith)
 
-  pub sections-at : fieldAt w (at + 21) 3 ≡ numSections (pipeAt w at)
+  pub sections-at : fieldAt w (at + 21) 3 ≡ numDisperserSections1 (pipeAt w at)
   unfolding offset
   sections-at = row-field table16 3 at w (lit< tt) (omega arith) (omega arith)
 
@@ -55,7 +55,7 @@ pub own-none : (f : List ℕ) → pipeWidth f ≡ 0 → (ownStreams f ≡ 0) × 
 unfolding ownStreams ownSections
 own-none f e = let t = eq-eqb (pipeWidth f) 0 e in (choose-true _ _ t, choose-true _ _ t)
 
-pub own-some : (f : List ℕ) → (pipeWidth f ≡ 0 → ⊥) → (ownStreams f ≡ numSts f + 1) × (ownSections f ≡ numSections f + 1)
+pub own-some : (f : List ℕ) → (pipeWidth f ≡ 0 → ⊥) → (ownStreams f ≡ numSts1 f + 1) × (ownSections f ≡ numDisperserSections1 f + 1)
 unfolding ownStreams ownSections
 own-some f e = let t = ne-eqb (pipeWidth f) 0 e in (choose-false _ _ t, choose-false _ _ t)
 

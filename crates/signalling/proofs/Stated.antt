@@ -14,7 +14,7 @@ use Rattle.ground.proofs.Choice.{skip, hit}
 use Rattle.bits.specs.Lists.{unpack}
 use Rattle.bits.specs.Places.{fieldAt, fieldsAt}
 use Rattle.description.specs.Rows.{width, total, cut, cuts}
-use Rattle.description.specs.Fields.{table15, table16, table16b, table18, table19, sigPipeVer, numPipes, stsId, numTaps}
+use Rattle.description.specs.Fields.{table15, table16, table16b, table18, table19, sigPipeVer, numPipes1, stsId, numTapsDiv2}
 use Rattle.description.specs.Description.{ownStreams, ownSections, tailOwns, streamCount, sectionCount}
 use Rattle.description.specs.Rules.{size}
 use Rattle.description.specs.Sheet.{sectionsFrom, streamsFrom, sheetEnd}
@@ -29,7 +29,7 @@ module _ (sh : List ℕ) (p s d : ℕ) (n : length sh ≡ sheetEnd 12 p s d) whe
   b = unpack sh
 
   -- ---- 13
-  pub pipes-said : fieldAt sh 148 4 ≡ numPipes (sheetLists p s d (unpack sh) .multiplex)
+  pub pipes-said : fieldAt sh 148 4 ≡ numPipes1 (sheetLists p s d (unpack sh) .multiplex)
   unfolding sheetLists offset
   pipes-said = row-field table15 9 96 sh (lit< tt) (omega arith) (omega arith)
 
@@ -38,7 +38,7 @@ module _ (sh : List ℕ) (p s d : ℕ) (n : length sh ≡ sheetEnd 12 p s d) whe
   pipes-differ x e h = hit _ (ap not (ne-eqb p _ (λ q. h (q ∙ sym (e ∙ pipes-said)))))
 
   module _ (x : ℕ) (ex : x ≡ fieldAt sh 148 4) (same : p ≡ x) where
-    first : not (eqb p (numPipes (sheetLists p s d (unpack sh) .multiplex))) ≡ false
+    first : not (eqb p (numPipes1 (sheetLists p s d (unpack sh) .multiplex))) ≡ false
     first = ap not (eq-eqb p _ (same ∙ ex ∙ pipes-said))
 
     module _ (y t : ℕ) (ey : y ≡ total ownStreams (cuts table16 p (drop 168 (unpack sh)))) (et : t ≡ tailOwns (cut table16b (drop 152 (unpack sh)))) where
@@ -65,11 +65,11 @@ module _ (sh : List ℕ) (p s d : ℕ) (n : length sh ≡ sheetEnd 12 p s d) whe
       ap (λ (k : ℕ). fieldsAt sh k 16 4 d) (at-sections ∙ sym (add-zero (8 * sectionsFrom 12 p s)))
       ∙ fields-rows (4 ∷ table19) 0 d (8 * sectionsFrom 12 p s) sh (lit< tt) (omega arith) (omega arith) (omega arith)
 
-  taps-bare : (rs : List (List ℕ)) → map (λ r. getD r 1 0) rs ≡ map numTaps (bare rs)
+  taps-bare : (rs : List (List ℕ)) → map (λ r. getD r 1 0) rs ≡ map numTapsDiv2 (bare rs)
   taps-bare [] = refl
   taps-bare (r ∷ rs) = ap₂ (λ (x : ℕ) (l : List ℕ). x ∷ l) (sym (getD-drop 1 r 0 0)) (taps-bare rs)
 
-  pub taps-stated : fieldsAt sh (168 + 48 * p + 16 * s + 4) 16 4 d ≡ map numTaps (sheetLists p s d (unpack sh) .sections)
+  pub taps-stated : fieldsAt sh (168 + 48 * p + 16 * s + 4) 16 4 d ≡ map numTapsDiv2 (sheetLists p s d (unpack sh) .sections)
   unfolding sheetLists sheetSections offset width
   taps-stated =
       ap (λ (k : ℕ). fieldsAt sh (k + 4) 16 4 d) at-sections
@@ -94,8 +94,8 @@ module _ (sh : List ℕ) (p s d : ℕ) (n : length sh ≡ sheetEnd 12 p s d) whe
   -- the last three, where the count of sections is the records'
   pub judge-said : d ≡ total ownSections (cuts table16 p (drop 168 (unpack sh)))
       → judged (widthFault (cuts table16 p (drop 168 (unpack sh)))) (tapFault (cuts table16 p (drop 168 (unpack sh))) (fieldsAt sh (168 + 48 * p + 16 * s + 4) 16 4 (total ownSections (cuts table16 p (drop 168 (unpack sh)))))) (idFault (fieldsAt sh (168 + 48 * p) 16 8 s))
-      ≡ judged (widthFault (sheetLists p s d (unpack sh) .pipes)) (tapFault (sheetLists p s d (unpack sh) .pipes) (map numTaps (sheetLists p s d (unpack sh) .sections))) (idFault (map stsId (sheetLists p s d (unpack sh) .streams)))
+      ≡ judged (widthFault (sheetLists p s d (unpack sh) .pipes)) (tapFault (sheetLists p s d (unpack sh) .pipes) (map numTapsDiv2 (sheetLists p s d (unpack sh) .sections))) (idFault (map stsId (sheetLists p s d (unpack sh) .streams)))
   judge-said e =
       let rows : List (List ℕ) = cuts table16 p (drop 168 (unpack sh)) in
       ap₂ (λ (ts ids : List ℕ). judged (widthFault rows) (tapFault rows ts) (idFault ids)) (ap (fieldsAt sh (168 + 48 * p + 16 * s + 4) 16 4) (sym e) ∙ taps-stated) ids-stated
-      ∙ ap (λ (r : List (List ℕ)). judged (widthFault r) (tapFault r (map numTaps (sheetLists p s d (unpack sh) .sections))) (idFault (map stsId (sheetLists p s d (unpack sh) .streams)))) pipes-are
+      ∙ ap (λ (r : List (List ℕ)). judged (widthFault r) (tapFault r (map numTapsDiv2 (sheetLists p s d (unpack sh) .sections))) (idFault (map stsId (sheetLists p s d (unpack sh) .streams)))) pipes-are

@@ -19,7 +19,7 @@ use Rattle.bits.proofs.Lists.{unpack-length}
 use Rattle.bits.proofs.Joined.{field-num, run-unpack}
 use Rattle.crc.specs.Crc.{crcOf, crc12Of}
 use Rattle.description.specs.Rows.{width, total, cut, cuts}
-use Rattle.description.specs.Fields.{table15, table16, table16b, table18, table19, sigPipeVer, stsId, numTaps}
+use Rattle.description.specs.Fields.{table15, table16, table16b, table18, table19, sigPipeVer, stsId, numTapsDiv2}
 use Rattle.description.specs.Description.{ownStreams, ownSections, tailOwns, streamCount, sectionCount}
 use Rattle.description.specs.Rules.{size}
 use Rattle.description.specs.Tests.{versionFault, listsFault, anySet, widthFault, tapFault, idFault}
@@ -102,13 +102,13 @@ module _ (w : List ℕ) (n : length w ≡ 96) where
             ∙ fields-rows table18 0 s (72 + 48 * p) w (lit< tt) (omega arith) (omega arith) (omega arith)
             ∙ ap₂ (λ (i k : ℕ). map stsId (cuts table18 i (drop (72 + 48 * k) (unpack w)))) f e
 
-        pub taps-are : (at : ℕ) → at ≡ 72 + 48 * p + 16 * s → fieldsAt w at 12 4 d ≡ map numTaps (sectionsIn (unpack w))
+        pub taps-are : (at : ℕ) → at ≡ 72 + 48 * p + 16 * s → fieldsAt w at 12 4 d ≡ map numTapsDiv2 (sectionsIn (unpack w))
         unfolding sectionsIn offset width
         taps-are at h =
             ap (λ (k : ℕ). fieldsAt w k 12 4 d) (h ∙ sym (add-zero (72 + 48 * p + 16 * s)))
             ∙ fields-rows table19 0 d (72 + 48 * p + 16 * s) w (lit< tt) (omega arith) (omega arith) (omega arith)
-            ∙ ap₂ (λ (i k : ℕ). map numTaps (cuts table19 i (drop (72 + 48 * k + 16 * s) (unpack w)))) g e
-            ∙ ap (λ (k : ℕ). map numTaps (cuts table19 (dIn (unpack w)) (drop (72 + 48 * pIn (unpack w) + 16 * k) (unpack w)))) f
+            ∙ ap₂ (λ (i k : ℕ). map numTapsDiv2 (cuts table19 i (drop (72 + 48 * k + 16 * s) (unpack w)))) g e
+            ∙ ap (λ (k : ℕ). map numTapsDiv2 (cuts table19 (dIn (unpack w)) (drop (72 + 48 * pIn (unpack w) + 16 * k) (unpack w)))) f
 
         -- what the last three tests find, as they are read
         pub judge-is : (at : ℕ) → at ≡ 72 + 48 * p + 16 * s

@@ -1,4 +1,4 @@
--- What filling a sheet asks: a word of 96 bytes, the counts of its lists, which are within 750 bits, and room.
+-- What filling a sheet asks: a word of 96 bytes, the counts of its lists, which are within 750 bits, and room. No public promise cites it.
 -- Assumes nothing.
 use Prim.Native.Nat.{ℕ, _≤_}
 use mathlib.Core.Path.{_≡_}

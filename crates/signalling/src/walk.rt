@@ -7,7 +7,7 @@ ghost use Rattle.bits.specs.Lists.{unpack};
 ghost use Rattle.bits.specs.Places.{fieldAt};
 ghost use Rattle.description.specs.Tests.{anySet};
 
-// The number in the n bits at a place of a word: every read of a word goes through here.
+// The number in the n bits at a place of a word or a sheet: every field goes through here. (The CRC is taken of all bits, by crate crc.)
 pub fn word_bits(word: &[u8], at: usize, n: usize) -> u32
     ensures { λ r. ⌜ r ≡ fieldAt (now (word .entry)) at n ⌝ }
 {

@@ -23,7 +23,7 @@ use Rattle.description.specs.Form1.{pStated, sStated, dStated, sheetLists, list
 use Rattle.description.proofs.Rows.{cut-row, cuts-rows, row-at}
 use Rattle.description.proofs.Bounds.{own-bounds}
 use Rattle.description.proofs.Tests.{lists-clear}
-use Rattle.text.specs.Words.{decimal, signed, taken, filled}
+use Rattle.text.specs.Words.{decimal, spelled, taken, filled}
 use Rattle.text.specs.Listing.{multiplexLine, pipeLine, pipeLines, tailLine, accepted, refused, listing}
 use Rattle.text.proofs.Decimal.{digits-most}
 use Rattle.text.proofs.Lines.{pipes-length, streams-length, sections-length, accepted-length}
@@ -56,7 +56,7 @@ filled-room : (text ns ws : List ℕ) → Within ns ws → length (filled text n
 unfolding filled
 filled-room [] ns ws h = omega arith
 filled-room (c ∷ text) ns ws h =
-    omega (arith, length-append (signed c (getD ns 0 0)) (filled text (drop (taken c) ns)), go (eqb c 35), filled-room text (drop (taken c) ns) (drop (taken c) ws) (within-rest (taken c) ns ws h))
+    omega (arith, length-append (spelled c (getD ns 0 0)) (filled text (drop (taken c) ns)), go (eqb c 35), filled-room text (drop (taken c) ns) (drop (taken c) ws) (within-rest (taken c) ns ws h))
   where
     go : (b : Bool) → length (choose b (decimal (getD ns 0 0)) (c ∷ [])) ≤ choose b (getD ws 0 1) 1
     go true = within-first ns ws h

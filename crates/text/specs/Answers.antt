@@ -12,7 +12,8 @@ use Rattle.text.specs.Listing.{listing}
 use Rattle.text.specs.declared.Listing.{Listing}
 use Rattle.text.specs.declared.Listing.the-variants.{Text, Refused, NoRoom}
 
--- accepted: 0, and the text's length; refused: the refusal number, and with it that number and the text's length; no room: 1
+-- accepted: 0, and the text's length; refused: the refusal number, and with it that number and the text's length; no room: 1. The number stands among the
+-- values too, so that a refusal with 1 is not taken for no room
 abbrev pub told : Listing → Told
 told (Text n) = record { number = 0; values = n ∷ [] }
 told (Refused number n) = record { number = number; values = number ∷ n ∷ [] }

@@ -23,18 +23,18 @@ digits (suc k) n = choose (ltb n 10) ((48 + n) ∷ []) (digits k (n / 10) ++ ((4
 unfoldable pub decimal : ℕ → List ℕ
 decimal n = digits n n
 
--- a sign of a text with numbers, the next number being n: the sign # (35) stands for it, and any other for itself
-abbrev pub signed : ℕ → ℕ → List ℕ
-signed c n = choose (eqb c 35) (decimal n) (c ∷ [])
+-- a character of a text with numbers, the next number being n: # (35) stands for it, and any other for itself
+abbrev pub spelled : ℕ → ℕ → List ℕ
+spelled c n = choose (eqb c 35) (decimal n) (c ∷ [])
 
--- how many numbers it takes
+-- how many of the numbers it takes
 abbrev pub taken : ℕ → ℕ
 taken c = choose (eqb c 35) 1 0
 
 -- a text with numbers
 unfoldable pub filled : List ℕ → List ℕ → List ℕ
 filled [] ns = []
-filled (c ∷ text) ns = signed c (getD ns 0 0) ++ filled text (drop (taken c) ns)
+filled (c ∷ text) ns = spelled c (getD ns 0 0) ++ filled text (drop (taken c) ns)
 
 abbrev pub line : String → List ℕ → List ℕ
 line text ns = filled (ascii text) ns

@@ -2,7 +2,7 @@
 ghost use mathlib.Core.Path.{_≡_};
 ghost use Prim.Native.Nat.{_+_, _≤_};
 ghost use lib.ListN.{length, getD};
-ghost use Rattle.text.specs.Words.{decimal, signed, taken, filled};
+ghost use Rattle.text.specs.Words.{decimal, spelled, taken, filled};
 ghost use Rattle.text.specs.Put.{Put};
 
 // A number in decimal: the digits of its tenth, where there are any, and then its last digit.
@@ -31,8 +31,8 @@ fn number_at(numbers: &[u32], n: usize) -> u32
 
 // One sign of a text: a number where it is #, and else itself.
 fn sign(out: &mut [u8], at: usize, c: u8, v: u32) -> usize
-    requires { ⌜ at + length (signed c v) ≤ length (now out) ⌝ }
-    ensures { λ r. ⌜ Put (now (out .entry)) at (signed c v) (now (out .exit)) r ⌝ }
+    requires { ⌜ at + length (spelled c v) ≤ length (now out) ⌝ }
+    ensures { λ r. ⌜ Put (now (out .entry)) at (spelled c v) (now (out .exit)) r ⌝ }
 {
     if c == b'#' {
         return number(out, at, v);
