@@ -7,8 +7,16 @@ native := target/native/libopl.a
 headend := target/examples/headend
 # the listing program, where crates.txt has it
 listing := $(if $(shell grep '^listing:' crates.txt),target/bin/listing)
-# what the demonstration is run on; `make demo sheet=FILE` takes another
+# what the demonstration is run on, and the frame that it writes; `make demo sheet=FILE` takes another, and so on
 sheet := examples/sheets/story.sheet
+payload := README.md
+frame := target/demo/frame.bin
+# where `make install` puts the library; DESTDIR, where it is set, goes before each of them
+version := 0.1.0
+PREFIX := /usr/local
+includedir := $(PREFIX)/include
+libdir := $(PREFIX)/lib
+pkgconfigdir := $(libdir)/pkgconfig
 # folders too, so that a file that is gone counts as a change
 sources := crates.txt $(shell find crates -name must-fail -prune -o \( -type d -o -name '*.rt' -o -name '*.antt' \) -print)
 
@@ -25,23 +33,28 @@ tools-soak := rt gcc cargo valgrind
 natively := OPL_ARCHIVE=$(native) CARGO_TARGET_DIR=target/native
 missing = $(strip $(foreach tool,$1,$(if $(shell command -v $(tool) 2>/dev/null),,$(tool))))
 
-.PHONY: help demo test bench soak lib clean need-demo need-test need-lib need-bench need-soak
+need = $(if $(call missing,$(tools-$1)),$(error make $1 needs what is not installed: $(call missing,$(tools-$1)) (README.md, "What must be installed")))
+
+.PHONY: help demo test bench soak lib install uninstall install-test clean need-demo need-test need-bench need-soak
 .DELETE_ON_ERROR:
 
 help:
-	@echo 'make demo    build the library and the C head-end of examples/, and run it on a sheet'
+	@echo 'make demo    build the library and the C head-end of examples/, and play a frame of a sheet'
 	@echo 'make test    prove everything, then test the library that was proved'
 	@echo 'make bench   compare speed with the second implementation'
 	@echo 'make soak    fuzz the library for a minute (seconds=N for longer), then look for memory faults'
 	@echo 'make lib     build the library, $(archive)'
+	@echo 'make install, make uninstall'
+	@echo '             put the library, its header and opl.pc under $(PREFIX) (PREFIX=FOLDER for another), and remove them'
 	@echo 'make clean   remove all that was built'
 
 # the head-end is run, and says why, even where the listing program refused the sheet
 demo: need-demo $(headend) $(listing)
-	@echo 'the sheet: $(sheet)'
+	@mkdir -p target/demo
+	@echo 'the sheet, $(sheet)'
 	@listed=0; \
-	$(if $(listing),sh tools/x86-64.sh run $(listing) <$(sheet) || listed=$$?;) \
-	sh tools/x86-64.sh run $(headend) $(sheet) && exit $$listed
+	$(if $(listing),sh tools/x86-64.sh run $(listing) <'$(sheet)' || listed=$$?;) \
+	sh tools/x86-64.sh run $(headend) '$(sheet)' '$(payload)' '$(frame)' && exit $$listed
 
 test: need-test
 	@bash tools/test.sh
@@ -54,23 +67,40 @@ soak: need-soak $(archive) $(native) $(listing)
 
 lib: $(archive)
 
+install: $(archive)
+	$(if $(filter /%,$(PREFIX)),,$(error PREFIX is to be a full path, and is '$(PREFIX)'))
+	install -d '$(DESTDIR)$(includedir)' '$(DESTDIR)$(libdir)' '$(DESTDIR)$(pkgconfigdir)'
+	install -m 644 include/opl.h '$(DESTDIR)$(includedir)/opl.h'
+	install -m 644 $(archive) '$(DESTDIR)$(libdir)/libopl.a'
+	sed -e 's|@version@|$(version)|' -e 's|@prefix@|$(PREFIX)|' \
+	    -e 's|@includedir@|$(includedir:$(PREFIX)/%=$${prefix}/%)|' -e 's|@libdir@|$(libdir:$(PREFIX)/%=$${prefix}/%)|' \
+	    tools/opl.pc.in >'$(DESTDIR)$(pkgconfigdir)/opl.pc'
+	chmod 644 '$(DESTDIR)$(pkgconfigdir)/opl.pc'
+
+uninstall:
+	rm -f '$(DESTDIR)$(includedir)/opl.h' '$(DESTDIR)$(libdir)/libopl.a' '$(DESTDIR)$(pkgconfigdir)/opl.pc'
+
+install-test: $(archive)
+	@sh tools/install-test.sh
+
 clean:
 	rm -rf target compare/target
 
-$(archive): $(sources) | need-lib
-	@rt staticlib opl
+# looked for here, not before: `sudo make install` of a library that is built needs no rt
+$(archive): $(sources)
+	$(call need,lib)@rt staticlib opl
 
 $(native): tools/native.sh $(archive)
 	@sh tools/native.sh $@
 
-$(headend): examples/headend.c examples/say.h include/opl.h tools/x86-64.sh $(archive)
+$(headend): $(wildcard examples/*.c examples/*.h) include/opl.h tools/x86-64.sh $(archive)
 	@mkdir -p $(@D)
-	@sh tools/x86-64.sh build $@ $<
+	@sh tools/x86-64.sh build $@ $(filter %.c,$^)
 
 # after the archive, not beside it: both prove into target/; touched, as rt leaves alone what is up to date
 target/bin/listing: $(sources) | need-demo $(archive)
 	@rt check listing
 	@touch -c $@
 
-need-demo need-test need-lib need-bench need-soak: need-%:
-	$(if $(call missing,$(tools-$*)),$(error make $* needs what is not installed: $(call missing,$(tools-$*)) (README.md, "What must be installed")))@:
+need-demo need-test need-bench need-soak: need-%:
+	$(call need,$*)@:

@@ -1,227 +1,227 @@
 /*
- * A head-end in small: what a transmitter's C program does with the library, one function for each
- * capability. `make demo` builds it and runs it.
+ * A head-end in small: it plays one frame of a sheet, as a transmitter's C program does with the library,
+ * and reads the frame back, as test equipment does. `make demo` builds it and runs it.
  *
- *   headend [SHEET [PAYLOAD]]
+ *   headend SHEET PAYLOAD FRAME
  *
- *   SHEET     the file of the sheet that the signalling word is made of; left out or -: standard input
- *   PAYLOAD   the file that fills the payload word, of which the first 1,532 bytes are taken; left out:
- *             a text
+ *   SHEET     the file of the sheet that the frame is made of; -: standard input
+ *   PAYLOAD   the file that fills the payload words, 1,532 bytes each, with zeros after its end
+ *   FRAME     the file that the frame is written to: the preamble and the signalling codeword, then the
+ *             codewords of each pipe in use, pipe by pipe and slot by slot
  *
  * It exits 0 only if every call answered as expected and gave what was expected, so not if the sheet is
- * refused.
+ * refused. The frame lacks what the library does not have yet: mixer, dispersers and collector (clauses
+ * 4.5 to 4.8) come with request 2026-06. The sheet is taken for that of this very frame, not for one that
+ * Reconfig_Flag or Reschedule_Flag announces.
  */
+#include <errno.h>
+#include <stdio.h>
 #include <stdlib.h>
+#include <string.h>
 
+#include "opl.h"
+#include "readback.h"
 #include "say.h"
+#include "sheet.h"
 
-/* The payload word's stream and pattern: those of a service in pipe 1 of sheets/story.sheet. */
-enum { STREAM = 1, PATTERN = 5, CODEWORD_BYTES = 4608 };
+_Static_assert(START_BYTES == OPL_PREAMBLE_BYTES + OPL_SIGNALLING_CODEWORD_BYTES, "they fill both units");
 
 /* No sheet has more than 2,571 bytes, so one byte more shows that what was read is none. */
 enum { SHEET_BYTES = 2572 };
 
-/* A frame starts with two capacity units of 2,048 bits: the preamble and the signalling codeword. */
-enum { FRAME_START_BYTES = 2 * 2048 / 8 };
-_Static_assert(FRAME_START_BYTES == OPL_PREAMBLE_BYTES + OPL_SIGNALLING_CODEWORD_BYTES, "both fill them");
+/* The stream type of the payload words: transparent (clause 4.3.2). */
+enum { TRANSPARENT = 1 };
 
-/* Bit i of packed bits, the first bit in the top bit of the first byte. */
-static bool bit(const uint8_t *bytes, size_t i)
+/* The slots of a pipe whose streams are printed. */
+enum { SLOTS_SHOWN = 16 };
+
+/* A frame in the making: its files, and what was written and read. */
+struct frame {
+    const char *path, *payload_path;
+    FILE *file, *payload;
+    size_t bytes;                     /* of payload codewords */
+    size_t words;                     /* payload words in these */
+    size_t sent;                      /* bytes of the payload file in these */
+    size_t filled;                    /* words that zeros fill up */
+    uint8_t first[OPL_PAYLOAD_BYTES]; /* the payload of the first word */
+};
+
+static bool put(const struct frame *frame, const uint8_t *bytes, size_t n)
 {
-    return bytes[i / 8] >> (7 - i % 8) & 1;
+    return fwrite(bytes, 1, n, frame->file) == n || fail("%s: %s", frame->path, strerror(errno));
 }
 
-/* A code bit as a value that is received without noise: 1 for a zero and -1 for a one. */
-static int8_t received(bool one)
+/* Prints a line: something's name, its length and its first bytes; the caller ends it. */
+static void say_part(const char *name, const uint8_t *bytes, size_t n)
 {
-    return one ? -1 : 1;
+    printf("  %-19s  %5zu bytes  ", name, n);
+    say_hex(bytes, 8);
+    printf("..  ");
 }
 
-/* The preamble that starts each frame, and the refusal of a buffer that is a byte short. */
-static bool preamble(uint8_t *start)
+/* Writes what each frame starts with: the preamble, then the codeword of the signalling word. */
+static bool put_start(struct frame *frame, const uint8_t *word)
 {
-    if (!answered(opl_preamble(start, OPL_PREAMBLE_BYTES), OPL_ACCEPTED, "opl_preamble, 32 bytes"))
+    uint8_t start[START_BYTES], *codeword = start + OPL_PREAMBLE_BYTES;
+    if (!accepted(opl_preamble(start, OPL_PREAMBLE_BYTES), "opl_preamble", "32 bytes") ||
+        !accepted(opl_encode(0, word, OPL_SIGNALLING_BYTES, codeword, OPL_SIGNALLING_CODEWORD_BYTES),
+                  "opl_encode", "the signalling word") ||
+        !put(frame, start, sizeof start))
         return false;
-    show(start, OPL_PREAMBLE_BYTES);
+    say_part("signalling word", word, OPL_SIGNALLING_BYTES);
+    printf("made of the sheet\n");
+    say_part("its codeword", codeword, OPL_SIGNALLING_CODEWORD_BYTES);
+    printf("not mixed yet (request 2026-06)\n");
+    say_part("preamble", start, OPL_PREAMBLE_BYTES);
+    printf("\"%.28s\"\n", (const char *)start);
+    printf("  %-19s  %5zu bytes  %d capacity units: preamble and codeword\n\n", "start of the frame",
+           sizeof start, START_BYTES / UNIT_BYTES);
+    return true;
+}
 
-    uint8_t small[OPL_PREAMBLE_BYTES - 1], before[sizeof small];
-    memset(small, 0xA5, sizeof small);
-    memcpy(before, small, sizeof small);
-    if (!answered(opl_preamble(small, sizeof small), OPL_LENGTH, "opl_preamble, 31 bytes"))
-        return false;
-    if (memcmp(small, before, sizeof small) != 0) {
-        fail("a refused call touched its buffer");
-        return false;
+/* Takes the next bytes of the payload file, and zeros after its end. */
+static bool take_payload(struct frame *frame, uint8_t *payload)
+{
+    size_t n = fread(payload, 1, OPL_PAYLOAD_BYTES, frame->payload);
+    if (ferror(frame->payload))
+        return fail("%s: %s", frame->payload_path, strerror(errno));
+    memset(payload + n, 0, OPL_PAYLOAD_BYTES - n);
+    if (frame->words++ == 0)
+        memcpy(frame->first, payload, OPL_PAYLOAD_BYTES);
+    frame->sent += n;
+    frame->filled += n < OPL_PAYLOAD_BYTES;
+    return true;
+}
+
+/* Writes the codeword of one slot, which carries a payload word of the stream that has the slot. */
+static bool put_codeword(struct frame *frame, const struct pipe *pipe, size_t slot)
+{
+    uint8_t payload[OPL_PAYLOAD_BYTES], word[OPL_PAYLOAD_WORD_BYTES], codeword[OPL_PAYLOAD_CODEWORD_MOST];
+    uint8_t id = slot_stream(pipe, slot);
+    size_t m = codeword_bytes(pipe->pattern);
+    frame->bytes += m;
+    return take_payload(frame, payload) &&
+           accepted(opl_payload_write(TRANSPARENT, id, payload, sizeof payload, word, sizeof word),
+                    "opl_payload_write", "a payload") &&
+           accepted(opl_encode(pipe->pattern, word, sizeof word, codeword, m), "opl_encode", "a payload word") &&
+           put(frame, codeword, m);
+}
+
+/* Writes the codewords of a pipe. That of the tail pipe is written whole: the collector cuts it. */
+static bool put_pipe(struct frame *frame, const struct pipe *pipe)
+{
+    size_t slots = pipe_codewords(pipe);
+    for (size_t slot = 0; slot < slots; slot++)
+        if (!put_codeword(frame, pipe, slot))
+            return false;
+    return true;
+}
+
+/* Prints the streams that have a pipe's slots, and what is yet to come in their order or length. */
+static void say_slots(const struct pipe *pipe, size_t slots)
+{
+    for (size_t slot = 0; slot < slots && slot < SLOTS_SHOWN; slot++)
+        printf(" %d", slot_stream(pipe, slot));
+    if (slots > SLOTS_SHOWN)
+        printf(" ..");
+    if (pipe->countdown != 0)
+        printf("  (countdown %u not heeded: request 2026-13)", pipe->countdown);
+    if (pipe->tail)
+        printf("  (not cut to its width: request 2026-06)");
+}
+
+/* Prints a pipe's line of the table. */
+static void say_pipe(const struct pipe *pipe, size_t number)
+{
+    size_t slots = pipe_codewords(pipe);
+    if (pipe->tail)
+        printf("  tail");
+    else
+        printf("  %4zu", number);
+    printf("  %7u  %14u  %9zu  ", pipe->pattern, pipe->width, slots);
+    if (slots != 0) {
+        printf("%10zu ", codeword_bytes(pipe->pattern));
+        say_slots(pipe, slots);
+    } else if (pipe->width != 0) {
+        printf("         -  none: a reserved pattern");
+    } else {
+        printf("         -  none: not in use");
+        if (pipe->num_sts_1 != 0)
+            printf(", whatever Num_STS_1 = %u says", pipe->num_sts_1);
     }
-    printf("  the 31 bytes hold what they held\n");
-    return true;
-}
-
-/* The signalling word of a sheet. */
-static bool write_signalling(const uint8_t *sheet, size_t n, uint8_t *word)
-{
-    if (!answered(opl_signalling_write(sheet, n, word, OPL_SIGNALLING_BYTES), OPL_ACCEPTED,
-                  "opl_signalling_write, a sheet of %zu bytes", n))
-        return false;
-    show(word, OPL_SIGNALLING_BYTES);
-    return true;
-}
-
-/* The word read back, which gives the sheet it was made of, and a damaged copy of it, which is refused. */
-static bool read_signalling(const uint8_t *word, const uint8_t *sheet, size_t n)
-{
-    uint8_t back[OPL_SHEET_ROOM];
-    if (!answered(opl_signalling_read(word, OPL_SIGNALLING_BYTES, back, sizeof back), OPL_ACCEPTED,
-                  "opl_signalling_read, the word"))
-        return false;
-    size_t length = (size_t)back[10] << 8 | back[11];
-    if (length != n || memcmp(back, sheet, n) != 0) {
-        fail("what was read back is another sheet");
-        return false;
-    }
-    printf("  its %zu bytes are those of the sheet\n", length);
-
-    uint8_t damaged[OPL_SIGNALLING_BYTES];
-    memcpy(damaged, word, sizeof damaged);
-    damaged[8] ^= 0x10;
-    return answered(opl_signalling_read(damaged, sizeof damaged, back, sizeof back), OPL_CRC,
-                    "opl_signalling_read, the word with a wrong bit");
-}
-
-/* The payload, filled up with zeros: the start of a file, or a text where path is null. */
-static bool load_payload(const char *path, uint8_t *payload)
-{
-    static const char text[] = "Uddhrepal: a proved outer physical layer for satellite digital radio";
-    memset(payload, 0, OPL_PAYLOAD_BYTES);
-    if (path == NULL) {
-        memcpy(payload, text, sizeof text - 1);
-        return true;
-    }
-    size_t n;
-    if (!load(path, payload, OPL_PAYLOAD_BYTES, &n))
-        return false;
-    printf("the payload: %zu bytes of %s%s\n", n, path, n < OPL_PAYLOAD_BYTES ? ", then zeros" : "");
-    return true;
-}
-
-/* A payload word of type 0 (dummy, no payload) or 1 (transparent), written and read back. */
-static bool payload_word(uint32_t type, const uint8_t *payload, size_t n, uint8_t *word)
-{
-    if (!answered(opl_payload_write(type, STREAM, payload, n, word, OPL_PAYLOAD_WORD_BYTES), OPL_ACCEPTED,
-                  "opl_payload_write, type %u, stream %d, %zu bytes", (unsigned)type, STREAM, n))
-        return false;
-    uint8_t header[OPL_PAYLOAD_HEADER_BYTES];
-    if (!answered(opl_payload_read(word, OPL_PAYLOAD_WORD_BYTES, header, sizeof header), OPL_ACCEPTED,
-                  "opl_payload_read, the word"))
-        return false;
-    unsigned rfu = (unsigned)header[0] << 24 | header[1] << 16 | header[2] << 8 | header[3];
-    printf("  RFU %u, stream %d, type %d, Encap_Ver %d\n", rfu, header[4], header[5], header[6]);
-    bool same = rfu == 0 && header[4] == STREAM && header[5] == type && header[6] == 0;
-    same = same && memcmp(word, payload, n) == 0;
-    for (size_t i = n; i < OPL_PAYLOAD_BYTES; i++)
-        same = same && word[i] == 0;
-    if (!same)
-        fail("what was read back is another header or payload");
-    return same;
-}
-
-/* A damaged copy of a payload word, which is refused. */
-static bool damaged_payload_word(const uint8_t *word)
-{
-    uint8_t damaged[OPL_PAYLOAD_WORD_BYTES], header[OPL_PAYLOAD_HEADER_BYTES];
-    memcpy(damaged, word, sizeof damaged);
-    damaged[OPL_PAYLOAD_BYTES] ^= 0x01;
-    return answered(opl_payload_read(damaged, sizeof damaged, header, sizeof header), OPL_CRC,
-                    "opl_payload_read, the word with a wrong header bit");
-}
-
-/* The turbo codeword of an infoword, which is a signalling word or a payload word. */
-static bool encode(uint32_t pattern, const uint8_t *infoword, size_t n, uint8_t *codeword, size_t m)
-{
-    if (!answered(opl_encode(pattern, infoword, n, codeword, m), OPL_ACCEPTED,
-                  "opl_encode, pattern %u, %zu bytes into %zu", (unsigned)pattern, n, m))
-        return false;
-    show(codeword, 16);
-    printf("  ..\n");
-    return true;
-}
-
-/* Prints the five places of a group. */
-static void show_group(const char *name, const int16_t *group)
-{
-    printf("  %s:", name);
-    for (size_t i = 0; i < 5; i++)
-        printf(group[i] == 0 ? "%3d" : "%+3d", group[i]);
     printf("\n");
 }
 
-/*
- * The codeword placed as a receiver places it. Patterns 0 and 5 send the X of each data group, once, so
- * the first place of data group i holds the value of the infoword's bit i.
- */
-static bool place(uint32_t pattern, const uint8_t *infoword, size_t n, const uint8_t *codeword, size_t m)
+/* Writes the codewords of all pipes, and prints the table of them. */
+static bool put_pipes(struct frame *frame, const uint8_t *sheet)
 {
-    static int8_t values[8 * OPL_PAYLOAD_CODEWORD_MOST];
-    static int16_t lane[OPL_PAYLOAD_LANE];
-    size_t places = n == OPL_SIGNALLING_BYTES ? OPL_SIGNALLING_LANE : OPL_PAYLOAD_LANE;
-    size_t groups = places / 5 - 6; /* the data groups; six groups of tail follow */
-    for (size_t k = 0; k < 8 * m; k++)
-        values[k] = received(bit(codeword, k));
-    if (!answered(opl_place(pattern, values, 8 * m, lane, places), OPL_ACCEPTED,
-                  "opl_place, pattern %u, %zu values into %zu places", (unsigned)pattern, 8 * m, places))
-        return false;
-    show_group("first data group", lane);
-    show_group("first tail group", lane + 5 * groups);
-
-    size_t right = 0;
-    for (size_t i = 0; i < groups; i++)
-        right += lane[5 * i] == received(bit(infoword, i));
-    printf("  %zu of %zu X places hold the word's bits\n", right, groups);
-    if (right != groups)
-        fail("values were placed where they do not belong");
-    return right == groups;
-}
-
-/* The start of a frame, from the sheet: the preamble, then the signalling codeword. */
-static bool frame_start(const uint8_t *sheet, size_t n)
-{
-    uint8_t start[FRAME_START_BYTES], *codeword = start + OPL_PREAMBLE_BYTES, word[OPL_SIGNALLING_BYTES];
-    if (!write_signalling(sheet, n, word) || !read_signalling(word, sheet, n) || !preamble(start) ||
-        !encode(0, word, sizeof word, codeword, OPL_SIGNALLING_CODEWORD_BYTES) ||
-        !place(0, word, sizeof word, codeword, OPL_SIGNALLING_CODEWORD_BYTES))
-        return false;
-    printf("the start of the frame, %zu bits: the preamble, then the codeword, which is not mixed yet\n",
-           8 * sizeof start);
-    show(start, 48);
-    printf("  ..\n");
+    struct pipe pipes[PIPES_MOST];
+    size_t n = sheet_pipes(sheet, pipes);
+    printf("  pipe  pattern  width in units  codewords  bytes each  streams in slot order\n");
+    for (size_t i = 0; i < n; i++) {
+        if (!put_pipe(frame, &pipes[i]))
+            return false;
+        say_pipe(&pipes[i], i + 1);
+    }
     return true;
 }
 
-/* Payload words, from a file or a text where path is null. */
-static bool payloads(const char *path)
+static void say_sums(const struct frame *frame)
 {
-    uint8_t payload[OPL_PAYLOAD_BYTES], word[OPL_PAYLOAD_WORD_BYTES], dummy[OPL_PAYLOAD_WORD_BYTES];
-    uint8_t codeword[CODEWORD_BYTES];
-    return load_payload(path, payload) && payload_word(1, payload, sizeof payload, word) &&
-           damaged_payload_word(word) && payload_word(0, payload, 0, dummy) &&
-           encode(PATTERN, word, sizeof word, codeword, sizeof codeword) &&
-           place(PATTERN, word, sizeof word, codeword, sizeof codeword);
+    const char *part = fgetc(frame->payload) == EOF ? "all" : "the first";
+    printf("\n  %-19s  %5zu bytes  ", "payload codewords", frame->bytes);
+    if (frame->words == 0)
+        printf("no pipe is sent");
+    else
+        printf("%zu words of type 1: %s %zu bytes of %s", frame->words, part, frame->sent, frame->payload_path);
+    if (frame->filled != 0)
+        printf("; zeros fill up %zu words", frame->filled);
+    printf("\n  %-19s  %5zu bytes\n", "the frame", START_BYTES + frame->bytes);
+}
+
+static FILE *opened(const char *path, const char *mode)
+{
+    FILE *file = fopen(path, mode);
+    if (file == NULL)
+        fail("%s: %s", path, strerror(errno));
+    return file;
+}
+
+/* Writes the frame of an accepted sheet and its signalling word. */
+static bool play(struct frame *frame, const uint8_t *sheet, const uint8_t *word)
+{
+    frame->payload = opened(frame->payload_path, "rb");
+    if (frame->payload == NULL)
+        return false;
+    frame->file = opened(frame->path, "wb");
+    if (frame->file == NULL) {
+        fclose(frame->payload);
+        return false;
+    }
+    printf("\nthe frame, written to %s\n", frame->path);
+    bool ok = put_start(frame, word) && put_pipes(frame, sheet);
+    if (ok)
+        say_sums(frame);
+    fclose(frame->payload);
+    if (fclose(frame->file) != 0 && ok)
+        ok = fail("%s: %s", frame->path, strerror(errno));
+    return ok;
 }
 
 int main(int count, char **words)
 {
-    if (count > 3) {
-        fail("usage: headend [SHEET [PAYLOAD]]");
+    if (count != 4) {
+        fail("usage: headend SHEET PAYLOAD FRAME");
         return EXIT_FAILURE;
     }
-    const char *sheet_path = count > 1 && strcmp(words[1], "-") != 0 ? words[1] : NULL;
-    const char *payload_path = count > 2 ? words[2] : NULL;
-    uint8_t sheet[SHEET_BYTES];
+    const char *sheet_path = strcmp(words[1], "-") == 0 ? NULL : words[1];
+    struct frame frame = {.payload_path = words[2], .path = words[3]};
+    uint8_t sheet[SHEET_BYTES], word[OPL_SIGNALLING_BYTES];
     size_t n;
-    bool ok = load(sheet_path, sheet, sizeof sheet, &n) && frame_start(sheet, n) && payloads(payload_path);
-    if (fflush(stdout) != 0 || ferror(stdout)) {
-        fail("standard output: %s", strerror(errno));
-        ok = false;
-    }
+    bool ok = load(sheet_path, sheet, sizeof sheet, &n) &&
+              accepted(opl_signalling_write(sheet, n, word, sizeof word), "opl_signalling_write", words[1]) &&
+              play(&frame, sheet, word) && read_back(frame.path, sheet, n, frame.first);
+    if (fflush(stdout) != 0 || ferror(stdout))
+        ok = fail("standard output: %s", strerror(errno));
     return ok ? EXIT_SUCCESS : EXIT_FAILURE;
 }

@@ -1,7 +1,8 @@
 #!/usr/bin/env bash
 # What `make test` runs: the layout, the whole of `rt ci`, compare's tests over the library that
-# `rt ci` proved, and the C example. It exits 0, with `rt ci`'s own 'N passed, 0 failed' as its very
-# last line, only if all of it passed; after any failure the last line names the step that failed.
+# `rt ci` proved, the C example, and a program that is built against the installed library. It exits
+# 0, with `rt ci`'s own 'N passed, 0 failed' as its very last line, only if all of it passed; after
+# any failure the last line names the step that failed.
 set -euo pipefail
 cd "$(dirname "$0")/.."
 unset MAKEFLAGS MFLAGS MAKELEVEL
@@ -50,5 +51,8 @@ begin 'compare'
 
 begin 'the C example'
 make --no-print-directory demo
+
+begin 'the installed library'
+make --no-print-directory install-test
 
 verdict=$last

@@ -1,0 +1,80 @@
+#include "sheet.h"
+
+/* Bytes of the sheet, as opl.h lays it out. */
+enum { PIPE_COUNT = 0, PIPE_OFFSET = 4, STREAM_OFFSET = 6, TAIL = 19, PIPE_BYTES = 6, STREAM_BYTES = 2 };
+
+static const uint8_t *table(const uint8_t *sheet, size_t offset)
+{
+    return sheet + (sheet[offset] << 8 | sheet[offset + 1]);
+}
+
+/* A record of table 16. A pipe of width 0 owns no stream, whatever Num_STS_1 says (clause 4.10.3). */
+static struct pipe payload_pipe(const uint8_t *record, const uint8_t *streams)
+{
+    struct pipe pipe = {
+        .pattern = record[0] >> 2,
+        .width = (record[0] & 0x03u) << 8 | record[1],
+        .num_sts_1 = record[2] >> 3,
+        .countdown = (record[3] & 0x3Fu) << 4 | record[4] >> 4,
+        .streams = streams,
+    };
+    pipe.count = pipe.width == 0 ? 0 : pipe.num_sts_1 + 1;
+    return pipe;
+}
+
+/* The record of table 16b. The tail pipe owns one stream, or none where it is not in use (clause 4.10.8). */
+static struct pipe tail_pipe(const uint8_t *record, const uint8_t *streams)
+{
+    struct pipe pipe = {
+        .tail = true,
+        .pattern = record[0] >> 2,
+        .width = (record[0] & 0x01u) << 8 | record[1],
+        .streams = streams,
+    };
+    pipe.count = pipe.width == 0 ? 0 : 1;
+    return pipe;
+}
+
+size_t sheet_pipes(const uint8_t *sheet, struct pipe pipes[PIPES_MOST])
+{
+    const uint8_t *record = table(sheet, PIPE_OFFSET), *streams = table(sheet, STREAM_OFFSET);
+    size_t p = sheet[PIPE_COUNT];
+    for (size_t i = 0; i < p; i++) {
+        pipes[i] = payload_pipe(record + PIPE_BYTES * i, streams);
+        streams += STREAM_BYTES * pipes[i].count;
+    }
+    pipes[p] = tail_pipe(sheet + TAIL, streams);
+    return p + 1;
+}
+
+/* The capacity units of a codeword: table 13 at the rate of each pattern; 0 for patterns 28 to 63. */
+static unsigned codeword_units(unsigned pattern)
+{
+    static const uint8_t units[] = {30, 27, 24, 21, 20, 18, 18, 16, 16, 15, 15, 14, 14, 12,
+                                    12, 12, 10, 10, 10, 9,  9,  9,  8,  8,  8,  7,  7,  7};
+    return pattern < sizeof units ? units[pattern] : 0;
+}
+
+size_t codeword_bytes(unsigned pattern)
+{
+    return (size_t)codeword_units(pattern) * UNIT_BYTES;
+}
+
+size_t pipe_codewords(const struct pipe *pipe)
+{
+    unsigned units = codeword_units(pipe->pattern);
+    if (pipe->width == 0 || units == 0)
+        return 0;
+    return pipe->tail ? 1 : pipe->width / units;
+}
+
+uint8_t slot_stream(const struct pipe *pipe, size_t slot)
+{
+    size_t i = 0;
+    /* a stream's record is its id and STS_Width_Slots_1, the number of its last slot */
+    while (slot > pipe->streams[STREAM_BYTES * i + 1]) {
+        slot -= pipe->streams[STREAM_BYTES * i + 1] + 1u;
+        i = (i + 1) % pipe->count;
+    }
+    return pipe->streams[STREAM_BYTES * i];
+}

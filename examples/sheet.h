@@ -1,0 +1,51 @@
+/*
+ * A sheet taken apart into its pipes, each with the streams that it owns (clauses 4.10.2, 4.10.3 and
+ * 4.10.8). It must be one that opl_signalling_write has accepted or opl_signalling_read has written: its
+ * lists are then as long as its records say, and nothing is checked again here.
+ */
+#ifndef SHEET_H
+#define SHEET_H
+
+#include <stdbool.h>
+#include <stddef.h>
+#include <stdint.h>
+
+/* A capacity unit, in which widths are counted, has 2,048 bits (clause 4.6). */
+enum { UNIT_BYTES = 2048 / 8 };
+
+/* A frame starts with two of them: the preamble and the signalling codeword (clause 4.10.1.1). */
+enum { START_BYTES = 2 * UNIT_BYTES };
+
+/* The 14 payload pipes for which a signalling word has room at most, and the tail pipe. */
+enum { PIPES_MOST = 15 };
+
+struct pipe {
+    bool tail;
+    unsigned pattern;       /* Punct_Pat_ID */
+    unsigned width;         /* Pipe_Width_CUs */
+    unsigned num_sts_1;     /* Num_STS_1; 0 for the tail pipe, which has no such field */
+    unsigned countdown;     /* Inter_Schedule_Period_Countdown_Slots; 0 for the tail pipe */
+    const uint8_t *streams; /* the records of the streams that it owns (table 18), in the sheet */
+    size_t count;           /* how many it owns */
+};
+
+/* Finds a sheet's pipes, the tail pipe last, and returns how many there are. */
+size_t sheet_pipes(const uint8_t *sheet, struct pipe pipes[PIPES_MOST]);
+
+/* The length of a payload word's codeword: 6 divided by the rate, in units; 0 for the reserved patterns. */
+size_t codeword_bytes(unsigned pattern);
+
+/*
+ * The codewords that are made for a pipe in a frame: one for each of its slots, none where it is not in
+ * use or its pattern is reserved, and one for the tail pipe, whose width no codeword need fit.
+ */
+size_t pipe_codewords(const struct pipe *pipe);
+
+/*
+ * The id of the stream that has a slot of a pipe in use, slots counted from 0. The streams take their
+ * widths in slots one after the other, and so again, from the start of the schedule. In which place of
+ * it a frame really starts is said by the countdown; that is the slot calendar's, request 2026-13.
+ */
+uint8_t slot_stream(const struct pipe *pipe, size_t slot);
+
+#endif
