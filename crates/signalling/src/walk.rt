@@ -11,7 +11,7 @@ ghost use Rattle.description.specs.Tests.{anySet};
 pub fn word_bits(word: &[u8], at: usize, n: usize) -> u32
     ensures { λ r. ⌜ r ≡ fieldAt (now (word .entry)) at n ⌝ }
 {
-    crate::reader::taken(crate::reader::reader_at(word, at), n)
+    crate::reader::Reader::new(word, at).bits(n)
 }
 
 // Whether a bit from one place up to another is set.

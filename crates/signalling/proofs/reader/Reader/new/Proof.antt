@@ -1,4 +1,4 @@
--- `signalling::reader::reader_at` meets its contract: a walk of its MIR, by hand. A `Reader` is made of the word and the place passed, in the result's local.
+-- `signalling::reader::Reader::new` meets its contract: a walk of its MIR, by hand. A `Reader` is made of the word and the place passed, in the result's local.
 -- A `&[u8]` is Copy, so what it owns is had twice: once for word at exit, and once inside the result, beside the facts of at.
 -- Assumes nothing.
 use mathlib.Core.Path.{refl}
@@ -37,10 +37,10 @@ use denote.Exit.{yes}
 use Rattle.signalling.specs.declared.reader.Reader.{Reader}
 use Rattle.signalling.proofs.reader.Reader as T
 use Rattle.signalling.proofs.reader.Reader.Laws as T′
-use Rattle.signalling.proofs.reader.reader_at.Key.{name as #signalling·reader·reader-at}
-use Rattle.signalling.proofs.reader.reader_at as new
-use Rattle.signalling.proofs.reader.reader_at.Statement as stated
-use Rattle.signalling.proofs.reader.reader_at.Code as code
+use Rattle.signalling.proofs.reader.Reader.new.Key.{name as #signalling·reader·Reader·new}
+use Rattle.signalling.proofs.reader.Reader.new as new
+use Rattle.signalling.proofs.reader.Reader.new.Statement as stated
+use Rattle.signalling.proofs.reader.Reader.new.Code as code
 
 abbrev stayed : Stays (new.ended .signature .params) (new.ended .kept)
 stayed = (stay-none-slice (0 ∷ []) tt (plain (λ _. u8)) yes, (stay-none (λ _. usize) yes, tt))
@@ -90,9 +90,9 @@ new-meets : {M : Type 1} (𝓤 : URA M) (H : Heap 𝓤) (A : Atoms 𝓤) → Giv
     → Meets 𝓤 H A new.signature (WpFn 𝓤 H (𝓣 .C) (𝓣 .Λ) code.function) (new.spec 𝓤 H A mem run)
 new-meets 𝓤 H A W mem run 𝓣 = walk-meets 𝓤 H A new.ended stayed W (goes-none-slice 𝓤 H A W 1 (0 ∷ []) tt (plain (λ _. u8)) yes, (goes-none 𝓤 H A W 1 (λ _. usize) yes (λ κs x f. refl), tt)) (new.clauses 𝓤 H A mem run) (WpFn 𝓤 H (𝓣 .C) (𝓣 .Λ) code.function) (WpFn-mono 𝓤 H (W .laws) 𝓣 code.function) (new-walks 𝓤 H A W mem run (𝓣 .C) (𝓣 .Λ))
 
-pub reader-at-spec : {M : Type 1} → stated.statement M
+pub new-spec : {M : Type 1} → stated.statement M
 unfolding code.routine tablesOf
-reader-at-spec 𝓤 H 𝓜 𝓖 𝓡 =
+new-spec 𝓤 H 𝓜 𝓖 𝓡 =
     entered 𝓤 H (tripleOf 𝓤 H (𝓖 .A) new.signature (new.spec 𝓤 H (𝓖 .A) (𝓜 .mem) (𝓡 .run)))
-    (tables 𝓤 H 𝓜 𝓡 code.env .C) (tables 𝓤 H 𝓜 𝓡 code.env .Λ) #signalling·reader·reader-at code.function (code.unfolded 𝓤 H 𝓜 𝓡)
+    (tables 𝓤 H 𝓜 𝓡 code.env .C) (tables 𝓤 H 𝓜 𝓡 code.env .Λ) #signalling·reader·Reader·new code.function (code.unfolded 𝓤 H 𝓜 𝓡)
     (new-meets 𝓤 H (𝓖 .A) (givenOf 𝓤 H 𝓜 𝓖) (𝓜 .mem) (𝓡 .run) (tablesOf 𝓤 H 𝓜 (tables 𝓤 H 𝓜 𝓡 code.env)))

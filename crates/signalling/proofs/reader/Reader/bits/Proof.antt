@@ -1,4 +1,4 @@
--- `signalling::reader::taken` meets its contract: a walk of its MIR, by hand. The reader is taken apart, and `bits::field` is called on the word, the place and the width. All that the proof knows of `field` is that it meets its contract.
+-- `signalling::reader::Reader::bits` meets its contract: a walk of its MIR, by hand. The reader is taken apart, and `bits::field` is called on the word, the place and the width. All that the proof knows of `field` is that it meets its contract.
 -- The struct is Copy: what it owns is had twice, one copy is kept whole for the exit, and of the other what word owns goes to the callee, beside the lifetime's token, which comes back.
 -- Assumes nothing.
 use mathlib.Core.Path.{_≡_, refl}
@@ -50,10 +50,10 @@ use Rattle.bits.proofs.field as field
 use Rattle.bits.proofs.field.Symbol as field-def
 use Rattle.bits.proofs.field.Symbol.{name as #bits·field}
 use Rattle.bits.proofs.field.Met as field-thm
-use Rattle.signalling.proofs.reader.taken.Key.{name as #signalling·reader·taken}
-use Rattle.signalling.proofs.reader.taken as taken
-use Rattle.signalling.proofs.reader.taken.Statement as stated
-use Rattle.signalling.proofs.reader.taken.Code as code
+use Rattle.signalling.proofs.reader.Reader.bits.Key.{name as #signalling·reader·Reader·bits}
+use Rattle.signalling.proofs.reader.Reader.bits as taken
+use Rattle.signalling.proofs.reader.Reader.bits.Statement as stated
+use Rattle.signalling.proofs.reader.Reader.bits.Code as code
 
 -- the struct's type, over the signature's lifetimes
 abbrev B : Lfts 1 → RattleType
@@ -157,10 +157,10 @@ taken-meets : {M : Type 1} (𝓤 : URA M) (H : Heap 𝓤) (A : Atoms 𝓤) (W : 
 taken-meets 𝓤 H A W mem run 𝓣 known-field = walk-meets 𝓤 H A taken.ended stayed W (goes-none 𝓤 H A W 1 B yes (λ κs x f. refl), (goes-none 𝓤 H A W 1 (λ _. usize) yes (λ κs x f. refl), tt)) (taken.clauses 𝓤 H A mem run) (WpFn 𝓤 H (𝓣 .C) (𝓣 .Λ) code.function) (WpFn-mono 𝓤 H (W .laws) 𝓣 code.function)
     (taken-walks 𝓤 H A W mem run (𝓣 .C) (𝓣 .Λ) (fmOf 𝓤 H (W .laws) 𝓣) known-field)
 
-pub taken-spec : {M : Type 1} → stated.statement M
+pub bits-spec : {M : Type 1} → stated.statement M
 unfolding code.routine tablesOf
-taken-spec 𝓤 H 𝓜 𝓖 𝓡 =
+bits-spec 𝓤 H 𝓜 𝓖 𝓡 =
     entered 𝓤 H (tripleOf 𝓤 H (𝓖 .A) taken.signature (taken.spec 𝓤 H (𝓖 .A) (𝓜 .mem) (𝓡 .run)))
-    (tables 𝓤 H 𝓜 𝓡 code.env .C) (tables 𝓤 H 𝓜 𝓡 code.env .Λ) #signalling·reader·taken code.function (code.unfolded 𝓤 H 𝓜 𝓡)
+    (tables 𝓤 H 𝓜 𝓡 code.env .C) (tables 𝓤 H 𝓜 𝓡 code.env .Λ) #signalling·reader·Reader·bits code.function (code.unfolded 𝓤 H 𝓜 𝓡)
     (taken-meets 𝓤 H (𝓖 .A) (givenOf 𝓤 H 𝓜 𝓖) (𝓜 .mem) (𝓡 .run) (tablesOf 𝓤 H 𝓜 (tables 𝓤 H 𝓜 𝓡 code.env))
     (cited 𝓤 H (Field 𝓤 H (𝓖 .A) (𝓜 .mem) (𝓡 .run)) 𝓜 𝓡 code.env #bits·field field-def.routine code.calls-bits·field (field-thm.met 𝓤 H 𝓜 𝓖 𝓡)))
