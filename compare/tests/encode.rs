@@ -1,11 +1,10 @@
 //! opl_encode against the second encoder: the number and every byte of the codeword.
 
-use compare::inputs;
+use compare::inputs::{self, Coding};
 use compare::lent::first_difference;
 use compare::opl;
 use compare::rng::Rng;
 use compare::second::bits::set_bit;
-use compare::second::patterns::pattern;
 use compare::second::turbo::encode;
 
 /// The number that both encoders give for a codeword of that length, filled at random. Panics unless
@@ -27,14 +26,17 @@ fn both(rng: &mut Rng, pattern: u32, infoword: &[u8], length: usize) -> u8 {
 
 /// All that is encoded: the pattern, the bytes of the infoword, the bytes of the codeword.
 fn kinds() -> impl Iterator<Item = (u32, usize, usize)> {
-    (0..28)
-        .map(|number| (number, 1_536, payload_bytes(number)))
-        .chain([(0, 96, 480)])
+    let kind = |coding: Coding| {
+        let (infoword, codeword) = (coding.infoword_bytes(), coding.codeword_bytes());
+        (coding.pattern, infoword, codeword)
+    };
+    inputs::codings().map(kind)
 }
 
 /// The bytes of a payload word's codeword.
-fn payload_bytes(number: u32) -> usize {
-    pattern(number).expect("one of the 28").code_bits(12_282) / 8
+fn payload_bytes(pattern: u32) -> usize {
+    let block = 12_282;
+    Coding { pattern, block }.codeword_bytes()
 }
 
 #[test]

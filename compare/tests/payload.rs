@@ -5,7 +5,7 @@ use compare::inputs;
 use compare::lent::first_difference;
 use compare::opl;
 use compare::rng::Rng;
-use compare::second::payload::{payload_of, read, seal, write};
+use compare::second::payload::{payload_of, report, seal, write};
 
 /// The number that both writers give for a word of that length, filled at random. Panics unless they
 /// agree on it and on every byte of the word.
@@ -29,16 +29,9 @@ fn both_write(rng: &mut Rng, ty: u32, id: u8, payload: &[u8], length: usize) -> 
 #[track_caller]
 fn both_read(rng: &mut Rng, word: &[u8], length: usize) -> u8 {
     let held = rng.bytes(length);
-    let mut expected = held.clone();
-    let number = match read(word) {
-        _ if length != 16 => 1,
-        Ok(header) => {
-            expected.fill(0);
-            expected[..4].copy_from_slice(&header.rfu.to_be_bytes());
-            expected[4..7].copy_from_slice(&[header.id, header.ty, header.encap]);
-            0
-        }
-        Err(number) => number,
+    let (number, expected) = match report(word, length) {
+        Ok(header) => (0, header.to_vec()),
+        Err(number) => (number, held.clone()),
     };
     let mut header = held;
     let refusal = opl::payload_read(word, &mut header);

@@ -1,11 +1,10 @@
 //! opl_place against the second placement: the number and every place of the lane.
 
-use compare::inputs;
+use compare::inputs::{self, Coding};
 use compare::lent::first_difference;
 use compare::opl;
 use compare::rng::Rng;
 use compare::second::bits::bits;
-use compare::second::patterns::pattern;
 use compare::second::turbo::{encode, place};
 
 /// The number that both placements give for a lane of that many places, filled at random. Panics unless
@@ -27,13 +26,12 @@ fn both(rng: &mut Rng, pattern: u32, values: &[i8], places: usize) -> u8 {
 
 /// All that is placed: the pattern, N, the number of values.
 fn kinds() -> impl Iterator<Item = (u32, usize, usize)> {
-    (0..28)
-        .map(|number| (number, 12_282, code_bits(number)))
-        .chain([(0, 762, 3_840)])
+    inputs::codings().map(|coding| (coding.pattern, coding.block, coding.code_bits()))
 }
 
-fn code_bits(number: u32) -> usize {
-    pattern(number).expect("one of the 28").code_bits(12_282)
+fn code_bits(pattern: u32) -> usize {
+    let block = 12_282;
+    Coding { pattern, block }.code_bits()
 }
 
 fn random_values(rng: &mut Rng, n: usize) -> Vec<i8> {

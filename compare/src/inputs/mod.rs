@@ -8,12 +8,65 @@ mod turbo;
 mod words;
 
 pub use descriptions::{description, plain, plain_pipe, points_at_the_bound};
-pub use payload::{payload_word, refused_payload_word, set_payload_header, PAYLOAD_REFUSALS};
+pub use payload::{
+    mutated_payload_word, payload_word, refused_payload_word, set_payload_header, PAYLOAD_REFUSALS,
+};
 pub use sheets::{mutated_sheet, refused_sheet, sheet, SHEET_REFUSALS};
-pub use turbo::infoword;
-pub use words::{mutated_word, refused_word, word, WORD_REFUSALS};
+pub use turbo::{coding, codings, infoword, values, Coding};
+pub use words::{mutated_word, refused_word, room, word, WORD_REFUSALS};
 
 use crate::rng::Rng;
+
+/// Lengths that the library's buffers have, the lanes' left out: one may be taken for another.
+const LENGTHS: [usize; 14] = [
+    16, 21, 32, 96, 121, 128, 480, 1_532, 1_536, 1_792, 2_571, 3_072, 3_840, 7_680,
+];
+
+/// A length that is none of the right ones: close to one, equal to one when cut to 8 or 16 bits, 0, another
+/// buffer's, any.
+pub fn wrong_length(rng: &mut Rng, right: &[usize]) -> usize {
+    loop {
+        let near = right[rng.below(right.len())];
+        let length = match rng.below(16) {
+            0 => 0,
+            1 => 1,
+            2..=4 => near.saturating_sub(1),
+            5..=7 => near + 1,
+            8 => near / 2,
+            9 => 2 * near,
+            10 => near + 256,
+            11 => near + 65_536,
+            12 | 13 => LENGTHS[rng.below(LENGTHS.len())],
+            _ => rng.below(near + 300),
+        };
+        if !right.contains(&length) {
+            return length;
+        }
+    }
+}
+
+/// This length, but now and then a wrong one.
+pub fn mostly(rng: &mut Rng, right: usize) -> usize {
+    if rng.chance(1, 16) {
+        wrong_length(rng, &[right])
+    } else {
+        right
+    }
+}
+
+/// A number that is not below `bound`: close to it, below it when cut to fewer bits, the greatest, any.
+pub fn number_past(rng: &mut Rng, bound: u32) -> u32 {
+    let number = match rng.below(4) {
+        0 => bound + rng.below(40) as u32,
+        1 => {
+            let cut = [3, 5, 6, 8, 16, 24, 31][rng.below(7)];
+            (1 << cut) + rng.below(bound as usize) as u32
+        }
+        2 => u32::MAX,
+        _ => rng.next_u64() as u32,
+    };
+    number.max(bound)
+}
 
 /// Flips a few bits from `from` up to `to`.
 fn flip(rng: &mut Rng, bytes: &mut [u8], from: usize, to: usize) {

@@ -17,6 +17,26 @@ pub fn payload_word(rng: &mut Rng) -> Vec<u8> {
     word
 }
 
+/// A payload word that may be accepted or refused: header bits flipped with and without the CRC put
+/// right again, random headers, random bytes.
+pub fn mutated_payload_word(rng: &mut Rng) -> Vec<u8> {
+    let mut word = payload_word(rng);
+    let end = 8 * payload::WORD_BYTES;
+    match rng.below(4) {
+        0 => flip(rng, &mut word, end - 32, end),
+        1 => {
+            flip(rng, &mut word, end - 32, end);
+            payload::seal(&mut word);
+        }
+        2 => {
+            let [rfu, id, ty, encap] = [4, 8, 3, 3].map(|width| rng.field(width));
+            set_payload_header(&mut word, rfu, id, ty, encap);
+        }
+        _ => word = rng.bytes(payload::WORD_BYTES),
+    }
+    word
+}
+
 /// A payload word to which the reader gives exactly this refusal; later rules
 /// of the order may be broken as well. None if the reader never gives it.
 pub fn refused_payload_word(rng: &mut Rng, number: u8) -> Option<Vec<u8>> {

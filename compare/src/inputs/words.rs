@@ -16,6 +16,15 @@ pub fn word(rng: &mut Rng) -> [u8; WORD_BYTES] {
     word_of(&description(rng))
 }
 
+/// Room enough for the reader, often just enough.
+pub fn room(rng: &mut Rng) -> usize {
+    if rng.flag() {
+        ROOM
+    } else {
+        rng.range(ROOM, 400)
+    }
+}
+
 /// A word that may be accepted or refused: bits flipped with and without the
 /// CRC put right again, faults in a description, random records, random
 /// bodies, random bytes, wrong lengths.
@@ -74,11 +83,7 @@ pub fn mutated_word(rng: &mut Rng) -> Vec<u8> {
 /// A word and a room to which the reader gives exactly this refusal; later
 /// rules of the order may be broken as well. None if the reader never gives it.
 pub fn refused_word(rng: &mut Rng, number: u8) -> Option<(Vec<u8>, usize)> {
-    let room = if rng.flag() {
-        ROOM
-    } else {
-        rng.range(ROOM, 400)
-    };
+    let room = room(rng);
     let word = match number {
         refusal::LENGTH => {
             let mut word = if rng.flag() {

@@ -10,6 +10,8 @@ use super::refusal;
 pub const WORD_BYTES: usize = 1_536;
 /// The bytes of a payload packet.
 pub const PACKET_BYTES: usize = 1_532;
+/// What the reader reports of a header, in bytes.
+pub const HEADER_BYTES: usize = 16;
 
 const HEADER_AT: usize = 8 * PACKET_BYTES;
 const CRC_AT: usize = HEADER_AT + 18;
@@ -73,6 +75,19 @@ pub fn read(word: &[u8]) -> Result<Header, u8> {
         return Err(refusal::STREAM_TYPE);
     }
     Ok(header)
+}
+
+/// What the reader reports, as include/opl.h lays it out: RFU in four bytes, id, type, Encap_Ver, zeros.
+/// Another length than 16 is refused as that of the word is.
+pub fn report(word: &[u8], report_len: usize) -> Result<[u8; HEADER_BYTES], u8> {
+    if report_len != HEADER_BYTES {
+        return Err(refusal::LENGTH);
+    }
+    let header = read(word)?;
+    let mut report = [0; HEADER_BYTES];
+    report[..4].copy_from_slice(&header.rfu.to_be_bytes());
+    report[4..7].copy_from_slice(&[header.id, header.ty, header.encap]);
+    Ok(report)
 }
 
 /// The payload of a word that `read` accepts: the first 1,532 bytes for type

@@ -1,5 +1,8 @@
 //! Clause 4.10.1.2: the start-of-frame preamble.
 
+/// Its length in bytes.
+pub const BYTES: usize = 32;
+
 /// The standard's eight words, sent in this order. It prints the last with one F too few; the scope
 /// mends it, and the word then has as many ones as zeros, which the clause says is its purpose.
 const SOF: [u32; 8] = [
