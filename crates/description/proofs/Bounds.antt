@@ -7,16 +7,16 @@ use mathlib.Core.List.{List, [], _∷_}
 use native.Mathlib.Decide.{decLt}
 use native.Mathlib.Omega.{arith}
 use lib.Dec.{eqb}
-use lib.ListN.{length, getD}
+use lib.ListN.{length, getD, length-append}
 use Rattle.ground.specs.Choice.{choose}
 use Rattle.description.specs.Rows.{Each, total, Row}
 use Rattle.description.specs.Fields.{table16, pipeWidth, numSts1, numDisperserSections1}
-use Rattle.description.specs.Description.{Lists, ownStreams, ownSections, tailOwns, streamCount, sectionCount}
-use Rattle.description.specs.Rules.{size}
+use Rattle.description.specs.Description.{Description, Lists, listsOf, streamsOf, sectionsOf, ownStreams, ownSections, tailOwns, streamCount, sectionCount}
+use Rattle.description.specs.Rules.{Keeps, size}
 use Rattle.description.specs.Sheet.{sheetEnd}
-use Rattle.description.proofs.Deal.{Counted}
+use Rattle.description.proofs.Deal.{Counted, counted, records-length}
 use Rattle.description.proofs.Sound.{Sound}
-use Rattle.description.proofs.Keeps.{Clean}
+use Rattle.description.proofs.Keeps.{Clean, sized-keeps, sound-keeps, clean-keeps}
 use Rattle.description.proofs.Tests.{lists-clear}
 use Rattle.description.proofs.Rows.{row-at}
 
@@ -92,3 +92,9 @@ bounds l s c k =
     within (length (l .pipes)) (length (l .streams)) (length (l .sections))
     (omega (arith, c .streams, t .0)) (omega (arith, c .streams, c .sections, t .2)) (omega (arith, c .sections, t .1)) (omega (arith, c .streams, c .sections, t .3))
     (lists-clear _ _ _ (k .fits))
+
+-- so a description that keeps the rules has at most 14 payload pipes, 34 streams, the tail's among them, and 32 sections, and a sheet of at most 121 bytes
+pub keeps-bounds : (d : Description) → Keeps d
+    → Bounds (length (d .pipes)) (length (streamsOf (d .pipes)) + length (d .tailStreams)) (length (sectionsOf (d .pipes)))
+unfolding listsOf
+keeps-bounds d k = rw (records-length, length-append) at (bounds (listsOf d) (sound-keeps d k) (counted d (sized-keeps d k)) (clean-keeps d k))

@@ -7,9 +7,9 @@ use borrow.Fn.World.{ArgsD, ResD}
 use borrow.Fn.Kinds.{endedOf}
 use denote.Ref.{now}
 use denote.Triple.Clauses.{AtExit}
-use lib.ListN.{length}
+use lib.ListN.{length, take}
 use Rattle.payload.specs.Answers.{headerBytes}
-use Rattle.payload.proofs.WaysBack.{header-after}
+use Rattle.payload.proofs.WaysBack.{header-after, packet-after}
 use Rattle.opl.proofs.opl_payload_write as opl-payload-write
 use Rattle.opl.proofs.opl_payload_write.Kinds as opl-payload-write-kinds
 use Rattle.opl.proofs.opl_payload_write.Reads as opl-payload-write-reads
@@ -29,3 +29,9 @@ pub opl-payload-back : (κs : Lfts 2) (a : ArgsD opl-payload-write.signature κs
 opl-payload-back κs a r s κt b n t did zero byte e l p =
     header-after (a .0) (a .1 .0) (now (a .1 .1 .0)) (now (a .1 .1 .1 .0)) (now (s .1 .1 .1 .0)) r did zero byte
     (now (b .0)) (now (b .1 .0)) (now (t .1 .0)) n e l p
+
+-- after such a call with type 1 the first 1,532 bytes of the word are the payload
+pub opl-payload-kept : (κs : Lfts 2) (a : ArgsD opl-payload-write.signature κs) (r : ResD opl-payload-write.signature κs)
+    (s : AtExit (endedOf 2 opl-payload-write-kinds.ps opl-payload-write-kinds.r) κs)
+    → opl-payload-write-reads.Post κs a r s → r ≡ 0 → a .0 ≡ 1 → take 1532 (now (s .1 .1 .1 .0)) ≡ now (a .1 .1 .0)
+opl-payload-kept κs a r s = packet-after (a .0) (a .1 .0) (now (a .1 .1 .0)) (now (a .1 .1 .1 .0)) (now (s .1 .1 .1 .0)) r

@@ -7,9 +7,9 @@ use mathlib.Core.List.{List, _++_}
 use mathlib.Core.Logic.{_⊎_, inl, inr, ⊎-elim}
 use native.Mathlib.Omega.{arith}
 use lib.Dec.{eqb, ltb}
-use borrow.Author.Tests.{eq-eqb, eqb-false, ltb-false}
+use borrow.Author.Tests.{eq-eqb, ne-eqb, eqb-false, ltb-false, le-ltb}
 use Rattle.ground.specs.Choice.{choose, both, Fault, firstOf}
-use Rattle.ground.proofs.Choice.{all-clear}
+use Rattle.ground.proofs.Choice.{all-clear, clear-all, both-first, both-second}
 use Rattle.ground.proofs.Faults.{first-after, first-parts}
 use Rattle.patterns.specs.Blocks.{blockBy, unpaired, blockFaults, Coded}
 
@@ -55,6 +55,15 @@ unfolding blockFaults
 fit-coded payload signalling len p e =
     let c = all-clear (blockFaults p (blockBy payload signalling len)) tt e in
     block-coded payload signalling len p (c .0) (c .1 .0) (c .1 .1 .0)
+
+-- and the other way round
+pub coded-fit : (p n : ℕ) → Coded p n → firstOf (blockFaults p n) ≡ 0
+unfolding blockFaults unpaired
+coded-fit p n h =
+    let b = coded-bounds p n h in
+    let paired : unpaired p n ≡ false =
+    ⊎-elim (λ w. both-first (ltb 0 p) (ne-eqb n 762 (λ e. omega arith))) (λ w. both-second (eqb n 762) (le-ltb 0 p (omega arith))) h in
+    clear-all (blockFaults p n) (ne-eqb n 0 (λ e. omega (arith, b .1)), (le-ltb 27 p (omega (arith, b .0)), (paired, tt)))
 
 -- what is looked for behind the block and the pattern
 pub fit-after : (p n : ℕ) (m : List Fault) → firstOf (blockFaults p n) ≡ 0 → firstOf (blockFaults p n ++ m) ≡ firstOf m

@@ -20,6 +20,13 @@ use Rattle.payload.proofs.Writing.{packet-le}
 use Rattle.payload.proofs.Faults.{Writable, Readable, read-0}
 use Rattle.payload.proofs.Answers.{tells-fields, shows, into-done, writes, wrote}
 
+-- a written word begins with its packet
+packet-first : (kind id : ℕ) (p : List ℕ) → length p ≡ packetBytes kind → take (packetBytes kind) (wordOf kind id p) ≡ p
+unfolding wordOf filled
+packet-first kind id p n =
+    ap (take (packetBytes kind)) (append-assoc p (replicate (1532 - length p) 0) (pack 4 (closed (header (bits 4 0) id kind 0))))
+    ∙ take-at p (replicate (1532 - length p) 0 ++ pack 4 (closed (header (bits 4 0) id kind 0))) (packetBytes kind) n
+
 -- a word that the writer writes
 module _ (kind id : ℕ) (p : List ℕ) (k : kind ≤ 1) (i : id < 256) (n : length p ≡ packetBytes kind) where
   front-length : length (filled p) ≡ 1532
@@ -56,16 +63,10 @@ module _ (kind id : ℕ) (p : List ℕ) (k : kind ≤ 1) (i : id < 256) (n : len
   pub header-back : told (Fields 0 id kind) ≡ reading (wordOf kind id p)
   header-back = tells-fields (wordOf kind id p) 0 id kind (read-0 (wordOf kind id p) read-back) (sym rfu-back) (sym id-back) (sym kind-back)
 
-  first : take (packetBytes kind) (wordOf kind id p) ≡ p
-  unfolding wordOf filled
-  first =
-      ap (take (packetBytes kind)) (append-assoc p (replicate (1532 - length p) 0) (pack 4 (closed (header (bits 4 0) id kind 0))))
-      ∙ take-at p (replicate (1532 - length p) 0 ++ pack 4 (closed (header (bits 4 0) id kind 0))) (packetBytes kind) n
-
   -- its packet is shown
   pub packet-back : shown (wordOf kind id p) ≡ p
   packet-back =
-      sym (shows (wordOf kind id p) (packetBytes kind) (read-0 (wordOf kind id p) read-back) (ap packetBytes (sym kind-back))) ∙ first
+      sym (shows (wordOf kind id p) (packetBytes kind) (read-0 (wordOf kind id p) read-back) (ap packetBytes (sym kind-back))) ∙ packet-first kind id p n
 
   -- and its header goes into 16 bytes
   pub bytes-back : (out : List ℕ) → length out ≡ 16 → Is (readInto (wordOf kind id p) out) 0 (headerBytes 0 id kind 0)
@@ -81,6 +82,13 @@ header-after kind id p word m r o z i w out h n e l q =
     let a : Writable kind (length p) (length word) = wrote kind id p word r m o z in
     let f : w ≡ wordOf kind id p = e ∙ writes kind id p word r m o a .1 in
     agree q (subst (λ (x : List ℕ). Is (readInto x out) 0 (headerBytes 0 id kind 0)) (sym f) (bytes-back kind id p (a .kind-is) i (a .packet-is) out l))
+
+-- after a write of stream type 1 that answered 0, the first 1,532 bytes of the word are the packet
+pub packet-after : (kind id : ℕ) (p word m : List ℕ) (r : ℕ) → Is (written kind id p word) r m → r ≡ 0 → kind ≡ 1 → take 1532 m ≡ p
+packet-after kind id p word m r o z one =
+    let a : Writable kind (length p) (length word) = wrote kind id p word r m o z in
+    ap (take 1532) (writes kind id p word r m o a .1)
+    ∙ ap (λ (x : ℕ). take (packetBytes x) (wordOf kind id p)) (sym one) ∙ packet-first kind id p (a .packet-is)
 
 -- a word of bytes that the reader accepts with RFU zero
 module _ (w : List ℕ) (a : Readable w) (b : Below 256 w) (z : rfuOf w ≡ 0) where

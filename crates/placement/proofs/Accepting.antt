@@ -2,21 +2,22 @@
 -- Assumes nothing.
 use Prim.Native.Nat.{ℕ, _<_}
 use mathlib.Core.Path.{_≡_, refl, sym, ap, _∙_, subst}
-use mathlib.Core.Bool.{Bool, true, false}
-use mathlib.Core.List.{List}
+use mathlib.Core.Bool.{Bool, true, false, not}
+use mathlib.Core.List.{List, [], _∷_}
+use mathlib.Core.Logic.{⊎-elim}
 use native.Mathlib.Omega.{arith}
 use lib.Dec.{eqb}
 use lib.ListN.{length}
 use lib.IntN.{ℤ, pos}
 use borrow.Author.Tests.{eq-eqb, ne-eqb, eqb-true}
-use Rattle.ground.specs.Choice.{choose, firstOf}
+use Rattle.ground.specs.Choice.{choose, Fault, refuse, firstOf}
 use Rattle.ground.specs.Outcome.{Is}
 use Rattle.ground.proofs.Choice.{choose-true, choose-false}
 use Rattle.ground.proofs.Table.{tab-ext}
 use Rattle.patterns.specs.Rows.{copies}
 use Rattle.patterns.specs.Blocks.{blockBy, blockFaults, Coded}
 use Rattle.patterns.specs.Sent.{places, total, sent, codeLength}
-use Rattle.patterns.proofs.Blocks.{fit-coded, coded-bounds}
+use Rattle.patterns.proofs.Blocks.{fit-coded, coded-fit, fit-after, coded-bounds}
 use Rattle.patterns.proofs.Length.{length-rule}
 use Rattle.placement.specs.Place.{receivedFrom, held, placed, blockOf, faults, placing}
 use Rattle.placement.specs.Inside.{run, Placeable, Placed}
@@ -68,3 +69,19 @@ placeable p n values lane e z l =
       all = length-rule p n h .all ∙ sym l;
       room = lane-length (length lane) (λ q. omega (arith, b .1, e, q)) ∙ ap places (sym e);
     }
+
+-- a lane with as many places as a block has is that block's
+lane-block : (p n : ℕ) → Coded p n → blockBy 61440 3840 (places n) ≡ n
+unfolding blockBy
+lane-block p n = ⊎-elim (λ w. rw (w .1) refl) (λ w. rw (w .1) refl)
+
+-- a value for each code bit and a lane with a place for each of the block's are not refused
+pub placing-zero : (p n : ℕ) (values lane lane' : List ℤ) (r : ℕ) → Coded p n → length values ≡ codeLength p n → length lane ≡ places n
+    → Is (placing p values lane) r lane' → (r ≡ 0) × (lane' ≡ placed p n values)
+unfolding placing faults
+placing-zero p n values lane lane' r h l m o =
+    let b : blockOf lane ≡ n = ap (blockBy 61440 3840) m ∙ lane-block p n h in
+    let last : List Fault = refuse 1 (not (eqb (length values) (codeLength p n))) ∷ [] in
+    let z : firstOf (faults p (blockOf lane) (length values)) ≡ 0 =
+    ap (λ (i : ℕ). firstOf (faults p i (length values))) b ∙ fit-after p n last (coded-fit p n h) ∙ simp (eq-eqb (length values) (codeLength p n) l) in
+    (o .answer ∙ z, o .memory ∙ choose-true _ lane (eq-eqb _ 0 z) ∙ ap (λ (i : ℕ). placed p i values) b)

@@ -5,19 +5,24 @@ use mathlib.Core.Path.{_≡_, refl, sym, ap, ap₂, _∙_, subst}
 use mathlib.Core.List.{List, _∷_, _++_, map, map-append}
 use native.Mathlib.Nat.{zero-add, zero-mul, suc-mul, add-comm}
 use native.Mathlib.Omega.{arith}
-use lib.ListN.{length, getD, drop, replicate, length-take, length-drop, length-replicate, getD-replicate}
+use lib.ListN.{length, getD, drop, replicate, length-map, length-take, length-drop, length-replicate, getD-replicate}
 use lib.Seq.{ext-getD, getD-take, getD-drop}
 use lib.IntN.{ℤ, pos, _+ℤ_}
+use Rattle.ground.specs.Outcome.{Is}
 use Rattle.ground.proofs.Table.{getD-tab}
+use Rattle.bits.specs.Lists.{unpack}
 use Rattle.patterns.specs.Rows.{copies}
-use Rattle.patterns.specs.Sent.{places, spread, total, sent, sentFrom}
+use Rattle.patterns.specs.Blocks.{Coded}
+use Rattle.patterns.specs.Sent.{places, spread, total, sent, sentFrom, codeLength}
 use Rattle.patterns.proofs.Totals.{total-more, total-mono}
+use Rattle.patterns.proofs.Length.{length-rule}
 use Rattle.patterns.proofs.Spread.{length-spread, spread-at, From, spread-place}
 use Rattle.turbo.specs.Lane.{laneBit}
-use Rattle.turbo.specs.Encode.{codeBits}
-use Rattle.placement.specs.Place.{receivedFrom, held, placed}
+use Rattle.turbo.specs.Encode.{blockOf, codeBits, codeword, encoded}
+use Rattle.turbo.proofs.CodeBits.{code-count, code-unpack, encoded-zero}
+use Rattle.placement.specs.Place.{receivedFrom, held, placed, placing}
 use Rattle.placement.specs.Inside.{run}
-use Rattle.placement.proofs.Accepting.{received-is}
+use Rattle.placement.proofs.Accepting.{received-is, placing-zero}
 
 -- what a place of the lane holds
 pub placed-at : (p n : ℕ) (values : List ℤ) (k : ℕ) → k < places n → getD (placed p n values) k (pos 0) ≡ held (receivedFrom (sent p n) values k)
@@ -75,3 +80,18 @@ value-placed p n values k h =
       ap (λ (l : List ℤ). getD l t (pos 0)) (received-is p n values q (f .inside)) ∙ getD-take (c q) (drop (total c q) values) t (pos 0) (omega (arith, f .within))
           ∙ getD-drop (total c q) values t (pos 0) ∙ ap (λ (j : ℕ). getD values j (pos 0)) e,
     )
+
+-- after an encoding of a block of n bits that answered 0, placing the bits of its codeword, under the same pattern and into a lane of the block's length,
+-- answers 0, and each place holds its symbol as often as it is sent
+pub code-placed : (p n : ℕ) (w out code : List ℕ) (r : ℕ) → n ≡ blockOf w → Is (encoded p w out) r code → r ≡ 0
+    → (p' : ℕ) (values lane lane' : List ℤ) (r' : ℕ)
+    → p' ≡ p → values ≡ map pos (unpack code) → length lane ≡ places n → Is (placing p' values lane) r' lane'
+    → (r' ≡ 0) × ((k : ℕ) → k < places n → getD lane' k (pos 0) ≡ pos (copies p n k * laneBit w n k))
+code-placed p n w out code r b o z p' values lane lane' r' ep ev el o' =
+    let c = encoded-zero p w out code r o z in
+    let h : Coded p n = subst (Coded p) (sym b) (c .0) in
+    let v : values ≡ map pos (codeBits p n w) =
+    ev ∙ ap (λ (x : List ℕ). map pos (unpack x)) (c .1 ∙ ap (λ (m : ℕ). codeword p m w) (sym b)) ∙ ap (map pos) (code-unpack p n w h) in
+    let l : length values ≡ codeLength p n = ap length v ∙ length-map (codeBits p n w) pos ∙ code-count p n w ∙ length-rule p n h .all in
+    let s = placing-zero p n values lane lane' r' h l el (subst (λ (i : ℕ). Is (placing i values lane) r' lane') ep o') in
+    (s .0, λ k i. ap (λ (x : List ℤ). getD x k (pos 0)) (s .1 ∙ ap (placed p n) v) ∙ placed-code p n w k i)

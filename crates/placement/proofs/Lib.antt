@@ -4,4 +4,5 @@ pub mod Received
 pub mod Accepting
 pub mod Range
 pub mod Codeword
+pub mod Promised
 pub mod Agree
