@@ -1,71 +1,64 @@
 -- The header's tests, one after the other.
 -- Assumes nothing.
-use Prim.Native.Nat.{ℕ, _+_, _*_, _≤_, _<_}
-use mathlib.Core.Path.{_≡_, refl, ap}
+use Prim.Native.Nat.{ℕ, _≤_, _<_}
+use mathlib.Core.Path.{_≡_, refl, sym, ap, ap₂, _∙_}
 use mathlib.Core.Bool.{Bool, true, false, not}
-use mathlib.Core.List.{List}
-use lib.Dec.{eqb, ltb}
+use mathlib.Core.List.{List, [], _∷_}
+use lib.Dec.{eqb}
 use lib.ListN.{length, getD}
 use borrow.Author.Tests.{eq-eqb, ne-eqb, lt-ltb, le-ltb}
+use Rattle.ground.specs.Choice.{either}
 use Rattle.ground.proofs.Choice.{skip, hit}
 use Rattle.description.specs.Sheet.{pipesFrom, streamsFrom, sectionsFrom, sheetEnd}
 use Rattle.description.specs.Form1.{pStated, sStated, dStated, twoAt, headerFault}
 
-same : (x y : ℕ) → x ≡ y → not (eqb x y) ≡ false
-same x y e = ap not (eq-eqb x y e)
+-- the two numbers of some comparison differ
+abbrev pub differ : List (ℕ × ℕ) → Bool
+differ [] = false
+differ (q ∷ []) = not (eqb (q .0) (q .1))
+differ (q ∷ (r ∷ l)) = either (not (eqb (q .0) (q .1))) (differ (r ∷ l))
 
-other : (x y : ℕ) → (x ≡ y → ⊥) → not (eqb x y) ≡ true
-other x y h = ap not (ne-eqb x y h)
+-- what the tests after the first compare, in their order, where the header states the counts p, s and d
+abbrev pub compared : List ℕ → ℕ → ℕ → ℕ → List (ℕ × ℕ)
+compared sh p s d =
+    (getD sh 3 0, 0) ∷
+    (twoAt sh 4, pipesFrom 12) ∷
+    (twoAt sh 6, streamsFrom 12 p) ∷
+    (twoAt sh 8, sectionsFrom 12 p s) ∷
+    (twoAt sh 10, sheetEnd 12 p s d) ∷
+    (length sh, sheetEnd 12 p s d) ∷ []
 
-module _ (sh : List ℕ) where
-  pub short : length sh < 21 → headerFault sh ≡ true
-  unfolding headerFault
-  short h = hit _ (lt-ltb (length sh) 21 h)
+-- the next comparison, with x, as the code has read it, for its first number
+abbrev pub asked : ℕ → List (ℕ × ℕ) → List (ℕ × ℕ)
+asked x [] = []
+asked x (q ∷ l) = (x, q .1) ∷ l
 
-  module _ (long : 21 ≤ length sh) where
-    pub fourth : (getD sh 3 0 ≡ 0 → ⊥) → headerFault sh ≡ true
-    unfolding headerFault
-    fourth h = skip (le-ltb (length sh) 21 long) (hit _ (other (getD sh 3 0) 0 h))
+-- the header is wrong exactly where one of the comparisons that are left finds a difference
+pub record Left (sh : List ℕ) (l : List (ℕ × ℕ)) : Type 0 where
+  pub rest : headerFault sh ≡ differ l
 
-    module _ (zero : getD sh 3 0 ≡ 0) where
-      pub pipes-off : (twoAt sh 4 ≡ 21 → ⊥) → headerFault sh ≡ true
-      unfolding headerFault
-      pipes-off h = skip (le-ltb (length sh) 21 long) (skip (same (getD sh 3 0) 0 zero) (hit _ (other (twoAt sh 4) 21 h)))
+pub short : (sh : List ℕ) → length sh < 21 → headerFault sh ≡ true
+unfolding headerFault
+short sh h = hit _ (lt-ltb (length sh) 21 h)
 
-      module _ (pipes : twoAt sh 4 ≡ 21) where
-        pub streams-off : (twoAt sh 6 ≡ streamsFrom 12 (pStated sh) → ⊥) → headerFault sh ≡ true
-        unfolding headerFault
-        streams-off h =
-            skip (le-ltb (length sh) 21 long)
-            (skip (same (getD sh 3 0) 0 zero)
-            (skip (same (twoAt sh 4) 21 pipes) (hit _ (other (twoAt sh 6) (streamsFrom 12 (pStated sh)) h))))
+pub long : (sh : List ℕ) → 21 ≤ length sh → {p s d : ℕ} → p ≡ pStated sh → s ≡ sStated sh → d ≡ dStated sh → Left sh (compared sh p s d)
+unfolding headerFault
+long sh h {p} {s} {d} e f g = record {
+  rest =
+      skip (le-ltb (length sh) 21 h) refl
+      ∙ sym (ap₂ (λ (i j : ℕ). differ (compared sh i j d)) e f ∙ ap (λ (i : ℕ). differ (compared sh (pStated sh) (sStated sh) i)) g);
+}
 
-        module _ (streams : twoAt sh 6 ≡ streamsFrom 12 (pStated sh)) where
-          pub sections-off : (twoAt sh 8 ≡ sectionsFrom 12 (pStated sh) (sStated sh) → ⊥) → headerFault sh ≡ true
-          unfolding headerFault
-          sections-off h =
-              skip (le-ltb (length sh) 21 long)
-              (skip (same (getD sh 3 0) 0 zero)
-              (skip (same (twoAt sh 4) 21 pipes)
-              (skip (same (twoAt sh 6) (streamsFrom 12 (pStated sh)) streams) (hit _ (other (twoAt sh 8) (sectionsFrom 12 (pStated sh) (sStated sh)) h)))))
+module _ {sh : List ℕ} {x y : ℕ} where
+  pub read : {l : List (ℕ × ℕ)} → Left sh ((x, y) ∷ l) → {a : ℕ} → a ≡ x → Left sh (asked a ((x, y) ∷ l))
+  read {l} c e = record { rest = c .rest ∙ ap (λ (i : ℕ). differ ((i, y) ∷ l)) (sym e) }
 
-          module _ (sections : twoAt sh 8 ≡ sectionsFrom 12 (pStated sh) (sStated sh)) where
-            pub end-off : (twoAt sh 10 ≡ sheetEnd 12 (pStated sh) (sStated sh) (dStated sh) → ⊥) → headerFault sh ≡ true
-            unfolding headerFault
-            end-off h =
-                skip (le-ltb (length sh) 21 long)
-                (skip (same (getD sh 3 0) 0 zero)
-                (skip (same (twoAt sh 4) 21 pipes)
-                (skip (same (twoAt sh 6) (streamsFrom 12 (pStated sh)) streams)
-                (skip (same (twoAt sh 8) (sectionsFrom 12 (pStated sh) (sStated sh)) sections) (hit _ (other (twoAt sh 10) (sheetEnd 12 (pStated sh) (sStated sh) (dStated sh)) h))))))
+  -- a test finds a difference, is passed, or is the last
+  pub off : {q : ℕ × ℕ} {l : List (ℕ × ℕ)} → Left sh ((x, y) ∷ (q ∷ l)) → (x ≡ y → ⊥) → headerFault sh ≡ true
+  off c h = c .rest ∙ hit _ (ap not (ne-eqb x y h))
 
-            module _ (end : twoAt sh 10 ≡ sheetEnd 12 (pStated sh) (sStated sh) (dStated sh)) where
-              pub length-left : headerFault sh ≡ not (eqb (length sh) (sheetEnd 12 (pStated sh) (sStated sh) (dStated sh)))
-              unfolding headerFault
-              length-left =
-                  skip (le-ltb (length sh) 21 long)
-                  (skip (same (getD sh 3 0) 0 zero)
-                  (skip (same (twoAt sh 4) 21 pipes)
-                  (skip (same (twoAt sh 6) (streamsFrom 12 (pStated sh)) streams)
-                  (skip (same (twoAt sh 8) (sectionsFrom 12 (pStated sh) (sStated sh)) sections)
-                  (skip (same (twoAt sh 10) (sheetEnd 12 (pStated sh) (sStated sh) (dStated sh)) end) refl)))))
+  pub passed : {q : ℕ × ℕ} {l : List (ℕ × ℕ)} → Left sh ((x, y) ∷ (q ∷ l)) → x ≡ y → Left sh (q ∷ l)
+  passed c e = record { rest = c .rest ∙ skip (ap not (eq-eqb x y e)) refl }
+
+  pub last : Left sh ((x, y) ∷ []) → headerFault sh ≡ not (eqb x y)
+  last c = c .rest

@@ -1,18 +1,18 @@
 -- What each test of a word of 96 bytes finds, as it is read, and what the tests up to it say together.
 -- Assumes nothing.
-use Prim.Native.Nat.{ℕ, zero, suc, _+_, _-_, _*_, _≤_, _<_}
-use mathlib.Core.Path.{_≡_, refl, sym, ap, ap₂, _∙_, subst}
+use Prim.Native.Nat.{ℕ, _+_, _-_, _*_, _≤_, _<_}
+use mathlib.Core.Path.{_≡_, refl, sym, ap, ap₂, _∙_}
 use mathlib.Core.Bool.{Bool, true, false, not}
 use mathlib.Core.List.{List, [], _∷_, map}
-use native.Mathlib.Nat.{add-zero, add-assoc}
+use native.Mathlib.Nat.{add-zero}
 use native.Mathlib.Omega.{arith}
-use lib.Dec.{eqb, ltb, lit<}
-use lib.ListN.{length, getD, take, drop}
+use lib.Dec.{eqb, lit<}
+use lib.ListN.{length, take, drop}
 use lib.Seq.{slice, take-all}
-use borrow.Author.Tests.{eq-eqb, ne-eqb, lt-ltb, le-ltb}
+use borrow.Author.Tests.{eq-eqb, ne-eqb, lt-ltb}
 use Rattle.ground.specs.Outcome.{Told}
-use Rattle.ground.specs.Choice.{choose, firstOf}
-use Rattle.ground.proofs.Choice.{choose-true, choose-false, AllClear, first-drop}
+use Rattle.ground.specs.Choice.{firstOf}
+use Rattle.ground.proofs.Choice.{choose-true, choose-false}
 use Rattle.bits.specs.Lists.{num, unpack}
 use Rattle.bits.specs.Places.{fieldAt, fieldsAt}
 use Rattle.bits.proofs.Lists.{unpack-length}
@@ -25,6 +25,7 @@ use Rattle.description.specs.Rules.{size}
 use Rattle.description.specs.Tests.{versionFault, listsFault, anySet, widthFault, tapFault, idFault}
 use Rattle.description.specs.Word.{multiplexIn, pIn, pipesIn, tailIn, sIn, dIn, streamsIn, sectionsIn, spareFault, crcFault, paddingFault, wordFaults, surveyed}
 use Rattle.description.proofs.Rows.{offset}
+use Rattle.description.proofs.Tests.{clear-lists}
 use Rattle.description.proofs.Places.{row-field, fields-rows}
 use Rattle.signalling.proofs.Searches.{judged}
 
@@ -32,139 +33,179 @@ use Rattle.signalling.proofs.Searches.{judged}
 abbrev pub refusedBy : ℕ → Told
 refusedBy m = record { number = m; values = [] }
 
+-- p, s and d are the counts of the lists in the bits b
+pub record Counted (b : List ℕ) (p s d : ℕ) : Type 0 where
+  pub p-same : p ≡ pIn b
+  pub s-same : s ≡ sIn b
+  pub d-same : d ≡ dIn b
+
+-- the pipe records in the bits b, where there are p
+abbrev pub rowsOf : ℕ → List ℕ → List (List ℕ)
+rowsOf p b = cuts table16 p (drop 56 b)
+
+-- ---- what a test finds, from what the code reads for it
 module _ (w : List ℕ) (n : length w ≡ 96) where
   long : length (unpack w) ≡ 768
   long = unpack-length w ∙ omega arith
 
-  -- ---- the tests one by one
-  pub spare-is : anySet (slice 762 768 (unpack w)) ≡ spareFault (unpack w)
+  pub spare-is : {r : Bool} → r ≡ anySet (slice 762 768 (unpack w)) → spareFault (unpack w) ≡ r
   unfolding spareFault
-  spare-is = ap (λ (b : List ℕ). anySet (drop 762 b)) (take-all 768 (unpack w) (omega (arith, long)))
+  spare-is e = sym (e ∙ ap (λ (b : List ℕ). anySet (drop 762 b)) (take-all 768 (unpack w) (omega (arith, long))))
 
   sent-is : fieldAt w 750 12 ≡ num (take 12 (drop 750 (unpack w)))
   sent-is = field-num w 750 12 (omega arith) (omega arith)
 
-  crc-is : crc12Of w 0 750 ≡ crcOf 12 0x80F (take 750 (unpack w))
+  sum-is : crc12Of w 0 750 ≡ crcOf 12 0x80F (take 750 (unpack w))
   unfolding crc12Of
-  crc-is = ap (crcOf 12 0x80F) (run-unpack w 0 750 (omega arith))
+  sum-is = ap (crcOf 12 0x80F) (run-unpack w 0 750 (omega arith))
 
-  version-is : fieldAt w 0 4 ≡ sigPipeVer (multiplexIn (unpack w))
+  pub crc-is : {x y : ℕ} → x ≡ fieldAt w 750 12 → y ≡ crc12Of w 0 750 → crcFault (unpack w) ≡ not (eqb x y)
+  unfolding crcFault
+  crc-is e f = ap₂ (λ (a b : ℕ). not (eqb a b)) (sym (e ∙ sent-is)) (sym (f ∙ sum-is))
+
+  first-is : fieldAt w 0 4 ≡ sigPipeVer (multiplexIn (unpack w))
   unfolding multiplexIn offset
-  version-is = row-field table15 0 0 w (lit< tt) (omega arith) (omega arith)
+  first-is = row-field table15 0 0 w (lit< tt) (omega arith) (omega arith)
 
-  pub crc-same : (x y : ℕ) → x ≡ fieldAt w 750 12 → y ≡ crc12Of w 0 750 → x ≡ y → crcFault (unpack w) ≡ false
-  unfolding crcFault
-  crc-same x y e f h = ap not (eq-eqb _ _ (sym (e ∙ sent-is) ∙ h ∙ f ∙ crc-is))
-
-  pub crc-differs : (x y : ℕ) → x ≡ fieldAt w 750 12 → y ≡ crc12Of w 0 750 → (x ≡ y → ⊥) → crcFault (unpack w) ≡ true
-  unfolding crcFault
-  crc-differs x y e f h = ap not (ne-eqb _ _ (λ q. h (e ∙ sent-is ∙ q ∙ sym (f ∙ crc-is))))
-
-  pub version-zero : (x : ℕ) → x ≡ fieldAt w 0 4 → x ≡ 0 → versionFault (multiplexIn (unpack w)) ≡ false
+  pub version-is : {x : ℕ} → x ≡ fieldAt w 0 4 → versionFault (multiplexIn (unpack w)) ≡ not (eqb x 0)
   unfolding versionFault
-  version-zero x e h = ap not (eq-eqb _ _ (sym (e ∙ version-is) ∙ h))
+  version-is e = ap (λ (a : ℕ). not (eqb a 0)) (sym (e ∙ first-is))
 
-  pub version-set : (x : ℕ) → x ≡ fieldAt w 0 4 → (x ≡ 0 → ⊥) → versionFault (multiplexIn (unpack w)) ≡ true
-  unfolding versionFault
-  version-set x e h = ap not (ne-eqb _ _ (λ q. h (e ∙ version-is ∙ q)))
-
-  pub p-is : fieldAt w 52 4 ≡ pIn (unpack w)
+  pub p-is : {p : ℕ} → p ≡ fieldAt w 52 4 → p ≡ pIn (unpack w)
   unfolding pIn multiplexIn offset
-  p-is = row-field table15 9 0 w (lit< tt) (omega arith) (omega arith)
+  p-is e = e ∙ row-field table15 9 0 w (lit< tt) (omega arith) (omega arith)
 
-  module _ (p : ℕ) (e : p ≡ pIn (unpack w)) where
-    pub rows-are : cuts table16 p (drop 56 (unpack w)) ≡ pipesIn (unpack w)
+  module _ {p : ℕ} (e : p ≡ pIn (unpack w)) where
+    rows-are : rowsOf p (unpack w) ≡ pipesIn (unpack w)
     unfolding pipesIn
-    rows-are = ap (λ (k : ℕ). cuts table16 k (drop 56 (unpack w))) e
+    rows-are = ap (λ (i : ℕ). rowsOf i (unpack w)) e
 
-    pub s-is : (s t : ℕ) → s ≡ total ownStreams (cuts table16 p (drop 56 (unpack w))) → t ≡ tailOwns (cut table16b (drop (56 + 48 * p) (unpack w))) → s + t ≡ sIn (unpack w)
-    unfolding sIn streamCount tailIn
-    s-is s t f g =
-        ap₂ _+_ (f ∙ ap (total ownStreams) rows-are) (g ∙ ap (λ (k : ℕ). tailOwns (cut table16b (drop (56 + 48 * k) (unpack w)))) e)
+    -- the payload pipes own s streams and d sections, and the tail t streams and no section
+    pub counted-is : {s t d : ℕ} → s ≡ total ownStreams (rowsOf p (unpack w)) → t ≡ tailOwns (cut table16b (drop (56 + 48 * p) (unpack w)))
+        → d ≡ total ownSections (rowsOf p (unpack w))
+        → Counted (unpack w) p (s + t) (d + 0)
+    unfolding sIn streamCount tailIn dIn sectionCount
+    counted-is {d = d} f g h = record {
+      p-same = e;
+      s-same = ap₂ _+_ (f ∙ ap (total ownStreams) rows-are) (g ∙ ap (λ (i : ℕ). tailOwns (cut table16b (drop (56 + 48 * i) (unpack w)))) e);
+      d-same = add-zero d ∙ h ∙ ap (total ownSections) rows-are;
+    }
 
-    pub d-is : (d : ℕ) → d ≡ total ownSections (cuts table16 p (drop 56 (unpack w))) → d ≡ dIn (unpack w)
-    unfolding dIn sectionCount
-    d-is d f = f ∙ ap (total ownSections) rows-are
+  module _ {p s d : ℕ} (k : Counted (unpack w) p s d) (fits : size p s d ≤ 750) where
+    ids-are : fieldsAt w (72 + 48 * p) 16 8 s ≡ map stsId (streamsIn (unpack w))
+    unfolding streamsIn offset width
+    ids-are =
+        ap (λ (i : ℕ). fieldsAt w i 16 8 s) (sym (add-zero (72 + 48 * p)))
+        ∙ fields-rows table18 0 s (72 + 48 * p) w (lit< tt) (omega arith) (omega arith) (omega arith)
+        ∙ ap₂ (λ (i j : ℕ). map stsId (cuts table18 i (drop (72 + 48 * j) (unpack w)))) (k .s-same) (k .p-same)
 
-    module _ (s d : ℕ) (f : s ≡ sIn (unpack w)) (g : d ≡ dIn (unpack w)) where
-      pub size-is : size p s d ≡ size (pIn (unpack w)) (sIn (unpack w)) (dIn (unpack w))
-      size-is = ap₂ (λ (x y : ℕ). size x y d) e f ∙ ap (size (pIn (unpack w)) (sIn (unpack w))) g
+    -- the sections start where the code finds them from the end
+    taps-are : fieldsAt w (size p s d - 12 * d) 12 4 d ≡ map numTapsDiv2 (sectionsIn (unpack w))
+    unfolding sectionsIn offset width
+    taps-are =
+        let at : size p s d - 12 * d ≡ 72 + 48 * p + 16 * s + 0 = omega arith in
+        ap (λ (i : ℕ). fieldsAt w i 12 4 d) at
+        ∙ fields-rows table19 0 d (72 + 48 * p + 16 * s) w (lit< tt) (omega arith) (omega arith) (omega arith)
+        ∙ ap₂ (λ (i j : ℕ). map numTapsDiv2 (cuts table19 i (drop (72 + 48 * j + 16 * s) (unpack w)))) (k .d-same) (k .p-same)
+        ∙ ap (λ (i : ℕ). map numTapsDiv2 (cuts table19 (dIn (unpack w)) (drop (72 + 48 * pIn (unpack w) + 16 * i) (unpack w)))) (k .s-same)
 
-      pub padding-is : anySet (slice (size p s d) 750 (unpack w)) ≡ paddingFault (unpack w)
-      unfolding paddingFault
-      padding-is = ap (λ (k : ℕ). anySet (slice k 750 (unpack w))) size-is
-
-      module _ (fits : size p s d ≤ 750) where
-        pub ids-are : fieldsAt w (72 + 48 * p) 16 8 s ≡ map stsId (streamsIn (unpack w))
-        unfolding streamsIn offset width
-        ids-are =
-            ap (λ (k : ℕ). fieldsAt w k 16 8 s) (sym (add-zero (72 + 48 * p)))
-            ∙ fields-rows table18 0 s (72 + 48 * p) w (lit< tt) (omega arith) (omega arith) (omega arith)
-            ∙ ap₂ (λ (i k : ℕ). map stsId (cuts table18 i (drop (72 + 48 * k) (unpack w)))) f e
-
-        pub taps-are : (at : ℕ) → at ≡ 72 + 48 * p + 16 * s → fieldsAt w at 12 4 d ≡ map numTapsDiv2 (sectionsIn (unpack w))
-        unfolding sectionsIn offset width
-        taps-are at h =
-            ap (λ (k : ℕ). fieldsAt w k 12 4 d) (h ∙ sym (add-zero (72 + 48 * p + 16 * s)))
-            ∙ fields-rows table19 0 d (72 + 48 * p + 16 * s) w (lit< tt) (omega arith) (omega arith) (omega arith)
-            ∙ ap₂ (λ (i k : ℕ). map numTapsDiv2 (cuts table19 i (drop (72 + 48 * k + 16 * s) (unpack w)))) g e
-            ∙ ap (λ (k : ℕ). map numTapsDiv2 (cuts table19 (dIn (unpack w)) (drop (72 + 48 * pIn (unpack w) + 16 * k) (unpack w)))) f
-
-        -- what the last three tests find, as they are read
-        pub judge-is : (at : ℕ) → at ≡ 72 + 48 * p + 16 * s
-            → judged (widthFault (cuts table16 p (drop 56 (unpack w)))) (tapFault (cuts table16 p (drop 56 (unpack w))) (fieldsAt w at 12 4 (total ownSections (cuts table16 p (drop 56 (unpack w)))))) (idFault (fieldsAt w (72 + 48 * p) 16 8 s))
-            ≡ firstOf (drop 5 (wordFaults (unpack w)))
-        unfolding wordFaults dIn sectionCount
-        judge-is at h =
-            let t : total ownSections (cuts table16 p (drop 56 (unpack w))) ≡ d = ap (total ownSections) rows-are ∙ sym g in
-            ap₂ (λ (r : List (List ℕ)) (i : List ℕ). judged (widthFault r) (tapFault r (fieldsAt w at 12 4 (total ownSections (cuts table16 p (drop 56 (unpack w)))))) (idFault i)) rows-are ids-are
-            ∙ ap (λ (l : List ℕ). judged (widthFault (pipesIn (unpack w))) (tapFault (pipesIn (unpack w)) l) (idFault (map stsId (streamsIn (unpack w))))) (ap (fieldsAt w at 12 4) t ∙ taps-are at h)
+    -- what the last three tests find
+    pub judge-is : {r : ℕ} → (let rows = rowsOf p (unpack w) in let taps = fieldsAt w (size p s d - 12 * d) 12 4 (total ownSections rows) in
+        r ≡ judged (widthFault rows) (tapFault rows taps) (idFault (fieldsAt w (72 + 48 * p) 16 8 s)))
+        → r ≡ firstOf (drop 5 (wordFaults (unpack w)))
+    unfolding wordFaults dIn sectionCount
+    judge-is e =
+        let rows = rows-are (k .p-same) in
+        let own : total ownSections (rowsOf p (unpack w)) ≡ d = ap (total ownSections) rows ∙ sym (k .d-same) in
+        let taps = ap (fieldsAt w (size p s d - 12 * d) 12 4) own ∙ taps-are in
+        let found = judged (widthFault (pipesIn (unpack w))) (tapFault (pipesIn (unpack w)) (map numTapsDiv2 (sectionsIn (unpack w)))) in
+        e
+        ∙ ap₂ (λ (r : List (List ℕ)) (t : List ℕ). judged (widthFault r) (tapFault r t) (idFault (fieldsAt w (72 + 48 * p) 16 8 s))) rows taps
+        ∙ ap (λ (i : List ℕ). found (idFault i)) ids-are
 
 pub lists-found : (p s d : ℕ) → 750 < size p s d → listsFault p s d ≡ true
 unfolding listsFault
 lists-found p s d h = lt-ltb 750 (size p s d) h
 
+-- 15 payload pipes alone are too many
+pub pipes-found : (b : List ℕ) {p : ℕ} → p ≡ pIn b → 14 < p → listsFault (pIn b) (sIn b) (dIn b) ≡ true
+pipes-found b e h = lists-found (pIn b) (sIn b) (dIn b) (omega arith)
+
+module _ {b : List ℕ} {p s d : ℕ} (k : Counted b p s d) where
+  size-is : size (pIn b) (sIn b) (dIn b) ≡ size p s d
+  size-is = sym (ap₂ (λ (x y : ℕ). size x y d) (k .p-same) (k .s-same) ∙ ap (size (pIn b) (sIn b)) (k .d-same))
+
+  pub lists-long : 750 < size p s d → listsFault (pIn b) (sIn b) (dIn b) ≡ true
+  lists-long h = lists-found (pIn b) (sIn b) (dIn b) (omega (arith, size-is))
+
+  pub lists-fit : size p s d ≤ 750 → listsFault (pIn b) (sIn b) (dIn b) ≡ false
+  lists-fit h = clear-lists (pIn b) (sIn b) (dIn b) (omega (arith, size-is))
+
+  pub padding-is : {r : Bool} → r ≡ anySet (slice (size p s d) 750 b) → paddingFault b ≡ r
+  unfolding paddingFault
+  padding-is e = ap (λ (i : ℕ). anySet (slice i 750 b)) size-is ∙ sym e
+
 -- ---- what the tests up to one of them say together
-module _ (b : List ℕ) where
-  pub told-at : (k : ℕ) → AllClear (take k (wordFaults b)) → (m : ℕ) → m ≡ firstOf (drop k (wordFaults b)) → (m ≡ 0 → ⊥) → refusedBy m ≡ surveyed b
+-- the first k tests of the bits b find nothing: the answer is that of the tests behind them
+pub record Passed (k : ℕ) (b : List ℕ) : Type 0 where
+  pub rest : firstOf (wordFaults b) ≡ firstOf (drop k (wordFaults b))
+
+pub none-yet : (b : List ℕ) → Passed 0 b
+none-yet b = record { rest = refl }
+
+module _ {k : ℕ} {b : List ℕ} (c : Passed k b) where
+  pub told-at : (m : ℕ) → m ≡ firstOf (drop k (wordFaults b)) → (m ≡ 0 → ⊥) → refusedBy m ≡ surveyed b
   unfolding surveyed
-  told-at k c m e h =
-      let f : firstOf (wordFaults b) ≡ m = first-drop k (wordFaults b) c ∙ sym e in
+  told-at m e h =
+      let f : firstOf (wordFaults b) ≡ m = c .rest ∙ sym e in
       sym (choose-false _ (refusedBy (firstOf (wordFaults b))) (ne-eqb (firstOf (wordFaults b)) 0 (λ z. h (sym f ∙ z))) ∙ ap refusedBy f)
 
-  pub told-all : (k : ℕ) → AllClear (take k (wordFaults b)) → 0 ≡ firstOf (drop k (wordFaults b)) → (p s d : ℕ) → p ≡ pIn b → s ≡ sIn b → d ≡ dIn b
+  pub told-all : 0 ≡ firstOf (drop k (wordFaults b)) → {p s d : ℕ} → Counted b p s d
       → record { number = 0; values = p ∷ s ∷ d ∷ [] } ≡ surveyed b
   unfolding surveyed
-  told-all k c e p s d x y z =
-      let f : firstOf (wordFaults b) ≡ 0 = first-drop k (wordFaults b) c ∙ sym e in
+  told-all e n =
+      let f : firstOf (wordFaults b) ≡ 0 = c .rest ∙ sym e in
       sym (choose-true _ (refusedBy (firstOf (wordFaults b))) (eq-eqb (firstOf (wordFaults b)) 0 f)
-      ∙ (λ i. record { number = 0; values = sym x i ∷ sym y i ∷ sym z i ∷ [] }))
+      ∙ (λ i. record { number = 0; values = sym (n .p-same) i ∷ sym (n .s-same) i ∷ sym (n .d-same) i ∷ [] }))
 
-  -- the tests that were passed, one after the other
-  module _ (spare : spareFault b ≡ false) where
-    module _ (crc : crcFault b ≡ false) where
-      module _ (version : versionFault (multiplexIn b) ≡ false) where
-        module _ (lists : listsFault (pIn b) (sIn b) (dIn b) ≡ false) where
-          pub told-8 : paddingFault b ≡ true → refusedBy 8 ≡ surveyed b
-          unfolding wordFaults
-          told-8 e = told-at 4 (spare, (crc, (version, (lists, tt)))) 8 (sym (choose-true 8 _ e)) (λ z. omega arith)
-
-          pub passed-8 : paddingFault b ≡ false → AllClear (take 5 (wordFaults b))
-          unfolding wordFaults
-          passed-8 e = (spare, (crc, (version, (lists, (e, tt)))))
-
-        pub told-7 : listsFault (pIn b) (sIn b) (dIn b) ≡ true → refusedBy 7 ≡ surveyed b
-        unfolding wordFaults
-        told-7 e = told-at 3 (spare, (crc, (version, tt))) 7 (sym (choose-true 7 _ e)) (λ z. omega arith)
-
-      pub told-6 : versionFault (multiplexIn b) ≡ true → refusedBy 6 ≡ surveyed b
-      unfolding wordFaults
-      told-6 e = told-at 2 (spare, (crc, tt)) 6 (sym (choose-true 6 _ e)) (λ z. omega arith)
-
-    pub told-5 : crcFault b ≡ true → refusedBy 5 ≡ surveyed b
-    unfolding wordFaults
-    told-5 e = told-at 1 (spare, tt) 5 (sym (choose-true 5 _ e)) (λ z. omega arith)
-
-  pub told-2 : spareFault b ≡ true → refusedBy 2 ≡ surveyed b
+-- each test in turn: it answers, or is passed
+module _ {b : List ℕ} where
+  pub told-2 : Passed 0 b → spareFault b ≡ true → refusedBy 2 ≡ surveyed b
   unfolding wordFaults
-  told-2 e = told-at 0 tt 2 (sym (choose-true 2 _ e)) (λ z. omega arith)
+  told-2 c e = told-at c 2 (sym (choose-true 2 _ e)) (λ z. omega arith)
+
+  pub pass-2 : Passed 0 b → spareFault b ≡ false → Passed 1 b
+  unfolding wordFaults
+  pass-2 c e = record { rest = c .rest ∙ choose-false 2 _ e }
+
+  pub told-5 : Passed 1 b → crcFault b ≡ true → refusedBy 5 ≡ surveyed b
+  unfolding wordFaults
+  told-5 c e = told-at c 5 (sym (choose-true 5 _ e)) (λ z. omega arith)
+
+  pub pass-5 : Passed 1 b → crcFault b ≡ false → Passed 2 b
+  unfolding wordFaults
+  pass-5 c e = record { rest = c .rest ∙ choose-false 5 _ e }
+
+  pub told-6 : Passed 2 b → versionFault (multiplexIn b) ≡ true → refusedBy 6 ≡ surveyed b
+  unfolding wordFaults
+  told-6 c e = told-at c 6 (sym (choose-true 6 _ e)) (λ z. omega arith)
+
+  pub pass-6 : Passed 2 b → versionFault (multiplexIn b) ≡ false → Passed 3 b
+  unfolding wordFaults
+  pass-6 c e = record { rest = c .rest ∙ choose-false 6 _ e }
+
+  pub told-7 : Passed 3 b → listsFault (pIn b) (sIn b) (dIn b) ≡ true → refusedBy 7 ≡ surveyed b
+  unfolding wordFaults
+  told-7 c e = told-at c 7 (sym (choose-true 7 _ e)) (λ z. omega arith)
+
+  pub pass-7 : Passed 3 b → listsFault (pIn b) (sIn b) (dIn b) ≡ false → Passed 4 b
+  unfolding wordFaults
+  pass-7 c e = record { rest = c .rest ∙ choose-false 7 _ e }
+
+  pub told-8 : Passed 4 b → paddingFault b ≡ true → refusedBy 8 ≡ surveyed b
+  unfolding wordFaults
+  told-8 c e = told-at c 8 (sym (choose-true 8 _ e)) (λ z. omega arith)
+
+  pub pass-8 : Passed 4 b → paddingFault b ≡ false → Passed 5 b
+  unfolding wordFaults
+  pass-8 c e = record { rest = c .rest ∙ choose-false 8 _ e }

@@ -1,17 +1,18 @@
 -- `signalling::survey` meets its contract: at each answer the tests before it have found nothing. Assumes nothing.
-use Prim.Native.Nat.{ℕ, _+_, _-_, _*_, _≤_, _<_}
-use mathlib.Core.Path.{_≡_, sym, _∙_, subst}
-use mathlib.Core.Bool.{Bool, true, false}
-use native.Mathlib.Nat.{add-zero}
-use native.Mathlib.Omega.{arith}
+use Prim.Native.Nat.{ℕ, _+_}
+use mathlib.Core.Path.{_≡_, sym, ap, _∙_}
+use mathlib.Core.Bool.{not}
+use mathlib.Core.List.{List}
+use lib.Dec.{eqb}
 use lib.ListN.{drop}
+use borrow.Author.Tests.{eq-eqb, ne-eqb}
 use Rattle.ground.specs.Choice.{firstOf}
 use Rattle.bits.specs.Lists.{unpack}
-use Rattle.description.specs.Rules.{size}
-use Rattle.description.specs.Tests.{versionFault, listsFault}
-use Rattle.description.specs.Word.{multiplexIn, pIn, sIn, dIn, spareFault, crcFault, paddingFault, wordFaults}
-use Rattle.description.proofs.Tests.{clear-lists}
-use Rattle.signalling.proofs.Surveys.{spare-is, crc-same, crc-differs, version-zero, version-set, p-is, s-is, d-is, size-is, padding-is, judge-is, lists-found, told-at, told-all, told-2, told-5, told-6, told-7, told-8, passed-8}
+use Rattle.description.specs.Tests.{versionFault}
+use Rattle.description.specs.Word.{multiplexIn, pIn, spareFault, crcFault, paddingFault, wordFaults}
+use Rattle.signalling.proofs.Surveys.{Counted, spare-is, crc-is, version-is, p-is, counted-is, pipes-found, lists-long, lists-fit, padding-is, judge-is}
+use Rattle.signalling.proofs.Surveys.{Passed, none-yet, pass-2, pass-5, pass-6, pass-7, pass-8}
+use Rattle.signalling.proofs.Surveys.{told-2, told-5, told-6, told-7, told-8, told-at, told-all}
 use borrow.Author.Needs.{needs}
 use Rattle.signalling.proofs.survey.Statement.{statement}
 use Rattle.signalling.proofs.survey.Tie as tie
@@ -24,14 +25,98 @@ use Rattle.signalling.proofs.faults.judge.Reads as judge-reads
 use Rattle.signalling.proofs.walk.any_set.Reads as any-set-reads
 use Rattle.signalling.proofs.walk.word_bits.Reads as word-bits-reads
 
+-- ---- the places of the tests
+-- the word, and its bits, where the function starts
+abbrev word : tie.Start → List ℕ
+word o = o .args .word .now
+
+abbrev bits : tie.Start → List ℕ
+bits o = unpack (word o)
+
+-- the start, from where the numbers of a test have been read: of 2, of 5, of 6, of 7 for p alone, of 7
+abbrev from-2 : tie.After-any-set → tie.Start
+from-2 c = c .before .before
+
+abbrev from-5 : tie.After-crc12 → tie.Start
+from-5 c = from-2 (c .before .before .before)
+
+abbrev from-6 : tie.After-word-bits2 → tie.Start
+from-6 c = from-5 (c .before .before)
+
+abbrev from-p : tie.After-word-bits3 → tie.Start
+from-p c = from-6 (c .before .before)
+
+abbrev from-7 : tie.After-tail-owned → tie.Start
+from-7 c = from-p (c .before .before .before)
+
+-- where p, s and d have been read, from the test of 8
+abbrev counts : tie.After-any-set2 → tie.After-tail-owned
+counts c = c .before .before .before .before
+
+-- ---- what each test finds, by the number of its refusal, and what has been passed behind it
+-- 2: a spare bit is set
+spare : (c : tie.After-any-set) → spareFault (bits (from-2 c)) ≡ c .any-set .result
+spare c = let o = from-2 c in spare-is (word o) (o .pre) (c .any-set .ensures)
+
+-- passed: 2
+passed-2 : (c : tie.Else1) → Passed 1 (bits (from-2 (c .before)))
+passed-2 c = pass-2 (none-yet _) (spare (c .before) ∙ c .if1 .left)
+
+-- 5: the CRC that is sent is not that of the bits
+crc : (c : tie.After-crc12) → crcFault (bits (from-5 c)) ≡ not (eqb (c .before .word-bits .result) (c .crc12 .result))
+crc c = let o = from-5 c in crc-is (word o) (o .pre) (c .before .word-bits .ensures) (c .crc12 .ensures)
+
+-- passed: 2 5
+passed-5 : (c : tie.Else2) → Passed 2 (bits (from-5 (c .before)))
+passed-5 c = pass-5 (passed-2 (c .before .before .before)) (crc (c .before) ∙ ap not (eq-eqb _ _ (c .if2 .left)))
+
+-- 6: the version is not 0
+version : (c : tie.After-word-bits2) → versionFault (multiplexIn (bits (from-6 c))) ≡ not (eqb (c .word-bits2 .result) 0)
+version c = let o = from-6 c in version-is (word o) (o .pre) (c .word-bits2 .ensures)
+
+-- passed: 2 5 6
+passed-6 : (c : tie.Else3) → Passed 3 (bits (from-6 (c .before)))
+passed-6 c = pass-6 (passed-5 (c .before .before)) (version (c .before) ∙ ap not (eq-eqb _ _ (c .if3 .left)))
+
+-- 7: the lists are too long, for p alone and for p, s and d
+pipes : (c : tie.After-word-bits3) → c .word-bits3 .result ≡ pIn (bits (from-p c))
+pipes c = let o = from-p c in p-is (word o) (o .pre) (c .word-bits3 .ensures)
+
+counted : (c : tie.After-tail-owned)
+    → (let own = c .before .count .result in
+    Counted (bits (from-7 c)) (c .before .before .before .word-bits3 .result) (own .s + c .tail-owned .result) (own .d + 0))
+counted c =
+    let o = from-7 c in
+    let own = c .before .count .ensures in
+    counted-is (word o) (o .pre) (pipes (c .before .before .before)) (own .0) (c .tail-owned .ensures .0) (own .1)
+
+-- passed: 2 5 6 7
+passed-7 : (c : tie.Else5) → Passed 4 (bits (from-7 (c .before .before .before)))
+passed-7 c =
+    let k = c .before .before .before in
+    pass-7 (passed-6 (k .before .before .before .before)) (lists-fit (counted k) (c .if5 .left))
+
+-- 8: a bit behind the lists is set
+padding : (c : tie.After-any-set2) → paddingFault (bits (from-7 (counts c))) ≡ c .any-set2 .result
+padding c = padding-is (counted (counts c)) (c .any-set2 .ensures)
+
+-- passed: 2 5 6 7 8
+passed-8 : (c : tie.Else6) → Passed 5 (bits (from-7 (counts (c .before))))
+passed-8 c = pass-8 (passed-7 (c .before .before)) (padding (c .before) ∙ c .if6 .left)
+
+-- 9, 10 and 11: what `judge` finds
+judged : (c : tie.After-judge) → c .judge .result ≡ firstOf (drop 5 (wordFaults (bits (from-7 (counts (c .before .before))))))
+judged c =
+    let a = c .before .before in
+    let o = from-7 (counts a) in
+    judge-is (word o) (o .pre) (counted (counts a)) (a .before .if5 .left) (c .judge .ensures)
+
+-- ---- the needs
 any-set-requires : tie.Need-any-set-requires
 any-set-requires c κs = search needs
 
 returns : tie.Need-returns
-returns c =
-    let w = c .before .before .before .args .word .now in
-    let n = c .before .before .before .pre in
-    told-2 (unpack w) (sym (c .before .any-set .ensures ∙ spare-is w n) ∙ c .if1 .taken)
+returns c = told-2 (none-yet _) (spare (c .before) ∙ c .if1 .taken)
 
 word-bits-requires : tie.Need-word-bits-requires
 word-bits-requires c κs = search needs
@@ -43,22 +128,13 @@ cast-if2 : tie.Need-cast-if2
 cast-if2 c = search needs
 
 returns-2 : tie.Need-returns-2
-returns-2 c =
-    let w = c .before .before .before .before .before .before .args .word .now in
-    let n = c .before .before .before .before .before .before .pre in
-    let spare : spareFault (unpack w) ≡ false = sym (c .before .before .before .before .any-set .ensures ∙ spare-is w n) ∙ c .before .before .before .if1 .left in
-    told-5 (unpack w) spare (crc-differs w n (c .before .before .word-bits .result) (c .before .crc12 .result) (c .before .before .word-bits .ensures) (c .before .crc12 .ensures) (c .if2 .taken))
+returns-2 c = told-5 (passed-2 (c .before .before .before)) (crc (c .before) ∙ ap not (ne-eqb _ _ (c .if2 .taken)))
 
 word-bits-requires-2 : tie.Need-word-bits-requires-2
 word-bits-requires-2 c κs = search needs
 
 returns-3 : tie.Need-returns-3
-returns-3 c =
-    let w = c .before .before .before .before .before .before .before .before .args .word .now in
-    let n = c .before .before .before .before .before .before .before .before .pre in
-    let spare : spareFault (unpack w) ≡ false = sym (c .before .before .before .before .before .before .any-set .ensures ∙ spare-is w n) ∙ c .before .before .before .before .before .if1 .left in
-    let crc : crcFault (unpack w) ≡ false = crc-same w n (c .before .before .before .before .word-bits .result) (c .before .before .before .crc12 .result) (c .before .before .before .before .word-bits .ensures) (c .before .before .before .crc12 .ensures) (c .before .before .if2 .left) in
-    told-6 (unpack w) spare crc (version-set w n (c .before .word-bits2 .result) (c .before .word-bits2 .ensures) (c .if3 .taken))
+returns-3 c = told-6 (passed-5 (c .before .before)) (version (c .before) ∙ ap not (ne-eqb _ _ (c .if3 .taken)))
 
 word-bits-requires-3 : tie.Need-word-bits-requires-3
 word-bits-requires-3 c κs = search needs
@@ -67,15 +143,7 @@ cast-p : tie.Need-cast-p
 cast-p c = search needs
 
 returns-4 : tie.Need-returns-4
-returns-4 c =
-    let w = c .before .before .before .before .before .before .before .before .before .before .args .word .now in
-    let n = c .before .before .before .before .before .before .before .before .before .before .pre in
-    let spare : spareFault (unpack w) ≡ false = sym (c .before .before .before .before .before .before .before .before .any-set .ensures ∙ spare-is w n) ∙ c .before .before .before .before .before .before .before .if1 .left in
-    let crc : crcFault (unpack w) ≡ false = crc-same w n (c .before .before .before .before .before .before .word-bits .result) (c .before .before .before .before .before .crc12 .result) (c .before .before .before .before .before .before .word-bits .ensures) (c .before .before .before .before .before .crc12 .ensures) (c .before .before .before .before .if2 .left) in
-    let version : versionFault (multiplexIn (unpack w)) ≡ false = version-zero w n (c .before .before .before .word-bits2 .result) (c .before .before .before .word-bits2 .ensures) (c .before .before .if3 .left) in
-    let p : ℕ = c .before .word-bits3 .result in
-    let ep : p ≡ pIn (unpack w) = c .before .word-bits3 .ensures ∙ p-is w n in
-    told-7 (unpack w) spare crc version (lists-found (pIn (unpack w)) (sIn (unpack w)) (dIn (unpack w)) (omega (arith, c .if4 .taken)))
+returns-4 c = told-7 (passed-6 (c .before .before)) (pipes-found _ (pipes (c .before)) (c .if4 .taken))
 
 count-requires : tie.Need-count-requires
 count-requires c κs = search needs
@@ -115,38 +183,14 @@ add-end-3 c = search needs
 
 returns-5 : tie.Need-returns-5
 returns-5 c =
-    let w = c .before .before .before .before .before .before .before .before .before .before .before .before .before .before .before .args .word .now in
-    let n = c .before .before .before .before .before .before .before .before .before .before .before .before .before .before .before .pre in
-    let spare : spareFault (unpack w) ≡ false = sym (c .before .before .before .before .before .before .before .before .before .before .before .before .before .any-set .ensures ∙ spare-is w n) ∙ c .before .before .before .before .before .before .before .before .before .before .before .before .if1 .left in
-    let crc : crcFault (unpack w) ≡ false = crc-same w n (c .before .before .before .before .before .before .before .before .before .before .before .word-bits .result) (c .before .before .before .before .before .before .before .before .before .before .crc12 .result) (c .before .before .before .before .before .before .before .before .before .before .before .word-bits .ensures) (c .before .before .before .before .before .before .before .before .before .before .crc12 .ensures) (c .before .before .before .before .before .before .before .before .before .if2 .left) in
-    let version : versionFault (multiplexIn (unpack w)) ≡ false = version-zero w n (c .before .before .before .before .before .before .before .before .word-bits2 .result) (c .before .before .before .before .before .before .before .before .word-bits2 .ensures) (c .before .before .before .before .before .before .before .if3 .left) in
-    let p : ℕ = c .before .before .before .before .before .before .word-bits3 .result in
-    let ep : p ≡ pIn (unpack w) = c .before .before .before .before .before .before .word-bits3 .ensures ∙ p-is w n in
-    let s : ℕ = c .before .before .before .before .count .result .s + c .before .before .before .tail-owned .result in
-    let d : ℕ = c .before .before .before .before .count .result .d + 0 in
-    let es : s ≡ sIn (unpack w) = s-is w n p ep (c .before .before .before .before .count .result .s) (c .before .before .before .tail-owned .result) (c .before .before .before .before .count .ensures .0) (c .before .before .before .tail-owned .ensures .0) in
-    let ed : d ≡ dIn (unpack w) = d-is w n p ep d (add-zero (c .before .before .before .before .count .result .d) ∙ c .before .before .before .before .count .ensures .1) in
-    told-7 (unpack w) spare crc version (lists-found (pIn (unpack w)) (sIn (unpack w)) (dIn (unpack w)) (subst (λ (k : ℕ). 750 < k) (size-is w n p ep s d es ed) (omega (arith, c .if5 .taken))))
+    let k = c .before .before .before in
+    told-7 (passed-6 (k .before .before .before .before)) (lists-long (counted k) (c .if5 .taken))
 
 any-set-requires-2 : tie.Need-any-set-requires-2
 any-set-requires-2 c κs = search needs
 
 returns-6 : tie.Need-returns-6
-returns-6 c =
-    let w = c .before .before .before .before .before .before .before .before .before .before .before .before .before .before .before .before .before .args .word .now in
-    let n = c .before .before .before .before .before .before .before .before .before .before .before .before .before .before .before .before .before .pre in
-    let spare : spareFault (unpack w) ≡ false = sym (c .before .before .before .before .before .before .before .before .before .before .before .before .before .before .before .any-set .ensures ∙ spare-is w n) ∙ c .before .before .before .before .before .before .before .before .before .before .before .before .before .before .if1 .left in
-    let crc : crcFault (unpack w) ≡ false = crc-same w n (c .before .before .before .before .before .before .before .before .before .before .before .before .before .word-bits .result) (c .before .before .before .before .before .before .before .before .before .before .before .before .crc12 .result) (c .before .before .before .before .before .before .before .before .before .before .before .before .before .word-bits .ensures) (c .before .before .before .before .before .before .before .before .before .before .before .before .crc12 .ensures) (c .before .before .before .before .before .before .before .before .before .before .before .if2 .left) in
-    let version : versionFault (multiplexIn (unpack w)) ≡ false = version-zero w n (c .before .before .before .before .before .before .before .before .before .before .word-bits2 .result) (c .before .before .before .before .before .before .before .before .before .before .word-bits2 .ensures) (c .before .before .before .before .before .before .before .before .before .if3 .left) in
-    let p : ℕ = c .before .before .before .before .before .before .before .before .word-bits3 .result in
-    let ep : p ≡ pIn (unpack w) = c .before .before .before .before .before .before .before .before .word-bits3 .ensures ∙ p-is w n in
-    let s : ℕ = c .before .before .before .before .before .before .count .result .s + c .before .before .before .before .before .tail-owned .result in
-    let d : ℕ = c .before .before .before .before .before .before .count .result .d + 0 in
-    let es : s ≡ sIn (unpack w) = s-is w n p ep (c .before .before .before .before .before .before .count .result .s) (c .before .before .before .before .before .tail-owned .result) (c .before .before .before .before .before .before .count .ensures .0) (c .before .before .before .before .before .tail-owned .ensures .0) in
-    let ed : d ≡ dIn (unpack w) = d-is w n p ep d (add-zero (c .before .before .before .before .before .before .count .result .d) ∙ c .before .before .before .before .before .before .count .ensures .1) in
-    let fits : size p s d ≤ 750 = c .before .before .if5 .left in
-    let lists : listsFault (pIn (unpack w)) (sIn (unpack w)) (dIn (unpack w)) ≡ false = clear-lists (pIn (unpack w)) (sIn (unpack w)) (dIn (unpack w)) (subst (λ (k : ℕ). k ≤ 750) (size-is w n p ep s d es ed) fits) in
-    told-8 (unpack w) spare crc version lists (sym (c .before .any-set2 .ensures ∙ padding-is w n p ep s d es ed) ∙ c .if6 .taken)
+returns-6 c = told-8 (passed-7 (c .before .before)) (padding (c .before) ∙ c .if6 .taken)
 
 mul-judge : tie.Need-mul-judge
 mul-judge c = search needs
@@ -164,44 +208,12 @@ judge-requires : tie.Need-judge-requires
 judge-requires c κs = search needs
 
 returns-7 : tie.Need-returns-7
-returns-7 c =
-    let w = c .before .before .before .before .before .before .before .before .before .before .before .before .before .before .before .before .before .before .before .args .word .now in
-    let n = c .before .before .before .before .before .before .before .before .before .before .before .before .before .before .before .before .before .before .before .pre in
-    let spare : spareFault (unpack w) ≡ false = sym (c .before .before .before .before .before .before .before .before .before .before .before .before .before .before .before .before .before .any-set .ensures ∙ spare-is w n) ∙ c .before .before .before .before .before .before .before .before .before .before .before .before .before .before .before .before .if1 .left in
-    let crc : crcFault (unpack w) ≡ false = crc-same w n (c .before .before .before .before .before .before .before .before .before .before .before .before .before .before .before .word-bits .result) (c .before .before .before .before .before .before .before .before .before .before .before .before .before .before .crc12 .result) (c .before .before .before .before .before .before .before .before .before .before .before .before .before .before .before .word-bits .ensures) (c .before .before .before .before .before .before .before .before .before .before .before .before .before .before .crc12 .ensures) (c .before .before .before .before .before .before .before .before .before .before .before .before .before .if2 .left) in
-    let version : versionFault (multiplexIn (unpack w)) ≡ false = version-zero w n (c .before .before .before .before .before .before .before .before .before .before .before .before .word-bits2 .result) (c .before .before .before .before .before .before .before .before .before .before .before .before .word-bits2 .ensures) (c .before .before .before .before .before .before .before .before .before .before .before .if3 .left) in
-    let p : ℕ = c .before .before .before .before .before .before .before .before .before .before .word-bits3 .result in
-    let ep : p ≡ pIn (unpack w) = c .before .before .before .before .before .before .before .before .before .before .word-bits3 .ensures ∙ p-is w n in
-    let s : ℕ = c .before .before .before .before .before .before .before .before .count .result .s + c .before .before .before .before .before .before .before .tail-owned .result in
-    let d : ℕ = c .before .before .before .before .before .before .before .before .count .result .d + 0 in
-    let es : s ≡ sIn (unpack w) = s-is w n p ep (c .before .before .before .before .before .before .before .before .count .result .s) (c .before .before .before .before .before .before .before .tail-owned .result) (c .before .before .before .before .before .before .before .before .count .ensures .0) (c .before .before .before .before .before .before .before .tail-owned .ensures .0) in
-    let ed : d ≡ dIn (unpack w) = d-is w n p ep d (add-zero (c .before .before .before .before .before .before .before .before .count .result .d) ∙ c .before .before .before .before .before .before .before .before .count .ensures .1) in
-    let fits : size p s d ≤ 750 = c .before .before .before .before .if5 .left in
-    let lists : listsFault (pIn (unpack w)) (sIn (unpack w)) (dIn (unpack w)) ≡ false = clear-lists (pIn (unpack w)) (sIn (unpack w)) (dIn (unpack w)) (subst (λ (k : ℕ). k ≤ 750) (size-is w n p ep s d es ed) fits) in
-    let padding : paddingFault (unpack w) ≡ false = sym (c .before .before .before .any-set2 .ensures ∙ padding-is w n p ep s d es ed) ∙ c .before .before .if6 .left in
-    let passed = passed-8 (unpack w) spare crc version lists padding in
-    let j : c .before .judge .result ≡ firstOf (drop 5 (wordFaults (unpack w))) = c .before .judge .ensures ∙ judge-is w n p ep s d es ed fits (72 + 48 * p + 16 * s + 12 * d - 12 * d) (omega arith) in
-    told-at (unpack w) 5 passed (c .before .judge .result) j (c .if7 .taken)
+returns-7 c = told-at (passed-8 (c .before .before)) _ (judged (c .before)) (c .if7 .taken)
 
 returns-8 : tie.Need-returns-8
 returns-8 c =
-    let w = c .before .before .before .before .before .before .before .before .before .before .before .before .before .before .before .before .before .before .before .args .word .now in
-    let n = c .before .before .before .before .before .before .before .before .before .before .before .before .before .before .before .before .before .before .before .pre in
-    let spare : spareFault (unpack w) ≡ false = sym (c .before .before .before .before .before .before .before .before .before .before .before .before .before .before .before .before .before .any-set .ensures ∙ spare-is w n) ∙ c .before .before .before .before .before .before .before .before .before .before .before .before .before .before .before .before .if1 .left in
-    let crc : crcFault (unpack w) ≡ false = crc-same w n (c .before .before .before .before .before .before .before .before .before .before .before .before .before .before .before .word-bits .result) (c .before .before .before .before .before .before .before .before .before .before .before .before .before .before .crc12 .result) (c .before .before .before .before .before .before .before .before .before .before .before .before .before .before .before .word-bits .ensures) (c .before .before .before .before .before .before .before .before .before .before .before .before .before .before .crc12 .ensures) (c .before .before .before .before .before .before .before .before .before .before .before .before .before .if2 .left) in
-    let version : versionFault (multiplexIn (unpack w)) ≡ false = version-zero w n (c .before .before .before .before .before .before .before .before .before .before .before .before .word-bits2 .result) (c .before .before .before .before .before .before .before .before .before .before .before .before .word-bits2 .ensures) (c .before .before .before .before .before .before .before .before .before .before .before .if3 .left) in
-    let p : ℕ = c .before .before .before .before .before .before .before .before .before .before .word-bits3 .result in
-    let ep : p ≡ pIn (unpack w) = c .before .before .before .before .before .before .before .before .before .before .word-bits3 .ensures ∙ p-is w n in
-    let s : ℕ = c .before .before .before .before .before .before .before .before .count .result .s + c .before .before .before .before .before .before .before .tail-owned .result in
-    let d : ℕ = c .before .before .before .before .before .before .before .before .count .result .d + 0 in
-    let es : s ≡ sIn (unpack w) = s-is w n p ep (c .before .before .before .before .before .before .before .before .count .result .s) (c .before .before .before .before .before .before .before .tail-owned .result) (c .before .before .before .before .before .before .before .before .count .ensures .0) (c .before .before .before .before .before .before .before .tail-owned .ensures .0) in
-    let ed : d ≡ dIn (unpack w) = d-is w n p ep d (add-zero (c .before .before .before .before .before .before .before .before .count .result .d) ∙ c .before .before .before .before .before .before .before .before .count .ensures .1) in
-    let fits : size p s d ≤ 750 = c .before .before .before .before .if5 .left in
-    let lists : listsFault (pIn (unpack w)) (sIn (unpack w)) (dIn (unpack w)) ≡ false = clear-lists (pIn (unpack w)) (sIn (unpack w)) (dIn (unpack w)) (subst (λ (k : ℕ). k ≤ 750) (size-is w n p ep s d es ed) fits) in
-    let padding : paddingFault (unpack w) ≡ false = sym (c .before .before .before .any-set2 .ensures ∙ padding-is w n p ep s d es ed) ∙ c .before .before .if6 .left in
-    let passed = passed-8 (unpack w) spare crc version lists padding in
-    let j : c .before .judge .result ≡ firstOf (drop 5 (wordFaults (unpack w))) = c .before .judge .ensures ∙ judge-is w n p ep s d es ed fits (72 + 48 * p + 16 * s + 12 * d - 12 * d) (omega arith) in
-    told-all (unpack w) 5 passed (sym (c .if7 .left) ∙ j) p s d ep es ed
+    let a = c .before .before in
+    told-all (passed-8 a) (sym (c .if7 .left) ∙ judged (c .before)) (counted (counts (a .before)))
 
 pub survey-spec : {M : Type 1} → statement M
 survey-spec =

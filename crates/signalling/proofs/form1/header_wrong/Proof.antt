@@ -1,13 +1,9 @@
 -- `signalling::form1::header_wrong` meets its contract. Assumes nothing.
-use Prim.Native.Nat.{ℕ, _+_, _*_, _≤_}
-use mathlib.Core.Path.{_≡_, sym, ap, ap₂, _∙_}
-use mathlib.Core.Bool.{Bool, not}
-use lib.Dec.{eqb}
-use lib.ListN.{length, getD}
-use native.Mathlib.Omega.{arith}
-use Rattle.description.specs.Sheet.{streamsFrom, sectionsFrom, sheetEnd}
-use Rattle.description.specs.Form1.{pStated, sStated, dStated, twoAt}
-use Rattle.signalling.proofs.Headers.{short, fourth, pipes-off, streams-off, sections-off, end-off, length-left}
+use Prim.Native.Nat.{ℕ}
+use mathlib.Core.Path.{sym}
+use mathlib.Core.List.{List}
+use lib.ListN.{drop}
+use Rattle.signalling.proofs.Headers.{Left, compared, asked, short, long, read, off, passed, last}
 use borrow.Author.Needs.{needs}
 use Rattle.signalling.proofs.form1.header_wrong.Statement.{statement}
 use Rattle.signalling.proofs.form1.header_wrong.Tie as tie
@@ -16,8 +12,60 @@ use Rattle.signalling.proofs.form1.header_wrong.Lts as lts
 use Rattle.signalling.proofs.form1.byte_of.Reads as byte-of-reads
 use Rattle.signalling.proofs.form1.two_at.Reads as two-at-reads
 
+-- ---- the places of the tests
+-- the sheet, where it is long enough, and where the three counts have been read
+abbrev sheet-1 : tie.Else1 → List ℕ
+sheet-1 c = c .before .before .args .sheet .now
+
+abbrev sheet : tie.After-byte-of3 → List ℕ
+sheet c = sheet-1 (c .before .before .before)
+
+-- where the counts have been read, from the places of the third test to the sixth
+abbrev from-3 : tie.After-two-at → tie.After-byte-of3
+from-3 c = c .before .before .before
+
+abbrev from-4 : tie.After-two-at2 → tie.After-byte-of3
+from-4 c = from-3 (c .before .before)
+
+abbrev from-5 : tie.After-two-at3 → tie.After-byte-of3
+from-5 c = from-4 (c .before .before)
+
+abbrev from-6 : tie.After-two-at4 → tie.After-byte-of3
+from-6 c = from-5 (c .before .before)
+
+-- ---- the tests of refusal 12
+-- k comparisons are passed, and x is what was read for the next one
+abbrev Test : tie.After-byte-of3 → ℕ → ℕ → Type 0
+Test c k x =
+    Left (sheet c) (asked x (drop k (compared (sheet c) (c .before .before .byte-of .result) (c .before .byte-of2 .result) (c .byte-of3 .result))))
+
+-- passed: the length. Next: the fourth byte
+test-2 : (c : tie.After-byte-of4) → Test (c .before) 0 (c .byte-of4 .result)
+test-2 c =
+    let two = c .before .before in
+    let one = two .before in
+    let all = long _ (one .before .if1 .left) (one .byte-of .ensures .0) (two .byte-of2 .ensures .0) (c .before .byte-of3 .ensures .0) in
+    read all (c .byte-of4 .ensures .0)
+
+-- passed: the fourth byte too. Next: where the pipes start
+test-3 : (c : tie.After-two-at) → Test (from-3 c) 1 (c .two-at .result)
+test-3 c = read (passed (test-2 (c .before .before)) (c .before .if2 .left)) (c .two-at .ensures)
+
+-- passed: the pipes too. Next: where the streams start
+test-4 : (c : tie.After-two-at2) → Test (from-4 c) 2 (c .two-at2 .result)
+test-4 c = read (passed (test-3 (c .before .before)) (c .before .if3 .left)) (c .two-at2 .ensures)
+
+-- passed: the streams too. Next: where the sections start
+test-5 : (c : tie.After-two-at3) → Test (from-5 c) 3 (c .two-at3 .result)
+test-5 c = read (passed (test-4 (c .before .before)) (c .before .if4 .left)) (c .two-at3 .ensures)
+
+-- passed: the sections too. Next: where the sheet ends
+test-6 : (c : tie.After-two-at4) → Test (from-6 c) 4 (c .two-at4 .result)
+test-6 c = read (passed (test-5 (c .before .before)) (c .before .if5 .left)) (c .two-at4 .ensures)
+
+-- ---- the needs
 returns : tie.Need-returns
-returns c = sym (short (c .before .before .args .sheet .now) (c .if1 .taken))
+returns c = sym (short _ (c .if1 .taken))
 
 byte-of-requires : tie.Need-byte-of-requires
 byte-of-requires c κs = search needs
@@ -50,79 +98,34 @@ byte-of-requires-4 : tie.Need-byte-of-requires-4
 byte-of-requires-4 c κs = search needs
 
 returns-2 : tie.Need-returns-2
-returns-2 c =
-    let sh = c .before .before .before .before .before .before .before .args .sheet .now in
-    let long : 21 ≤ length sh = search needs in
-    sym (fourth sh long (λ e. omega (arith, c .if2 .taken, c .before .byte-of4 .ensures .0)))
+returns-2 c = sym (off (test-2 (c .before)) (c .if2 .taken))
 
 two-at-requires : tie.Need-two-at-requires
 two-at-requires c κs = search needs
 
 returns-3 : tie.Need-returns-3
-returns-3 c =
-    let sh = c .before .before .before .before .before .before .before .before .before .args .sheet .now in
-    let long : 21 ≤ length sh = search needs in
-    let zero : getD sh 3 0 ≡ 0 = sym (c .before .before .before .byte-of4 .ensures .0) ∙ c .before .before .if2 .left in
-    sym (pipes-off sh long zero (λ e. omega (arith, c .if3 .taken, c .before .two-at .ensures)))
+returns-3 c = sym (off (test-3 (c .before)) (c .if3 .taken))
 
 two-at-requires-2 : tie.Need-two-at-requires-2
 two-at-requires-2 c κs = search needs
 
 returns-4 : tie.Need-returns-4
-returns-4 c =
-    let sh = c .before .before .before .before .before .before .before .before .before .before .before .args .sheet .now in
-    let long : 21 ≤ length sh = search needs in
-    let zero : getD sh 3 0 ≡ 0 = sym (c .before .before .before .before .before .byte-of4 .ensures .0) ∙ c .before .before .before .before .if2 .left in
-    let pipes : twoAt sh 4 ≡ 21 = sym (c .before .before .before .two-at .ensures) ∙ c .before .before .if3 .left in
-    let ep : 21 + 6 * c .before .before .before .before .before .before .before .before .byte-of .result ≡ streamsFrom 12 (pStated sh) = ap (λ (k : ℕ). 21 + 6 * k) (c .before .before .before .before .before .before .before .before .byte-of .ensures .0) in
-    let es : 21 + 6 * c .before .before .before .before .before .before .before .before .byte-of .result + 2 * c .before .before .before .before .before .before .before .byte-of2 .result ≡ sectionsFrom 12 (pStated sh) (sStated sh) = ap₂ (λ (x y : ℕ). x + 2 * y) ep (c .before .before .before .before .before .before .before .byte-of2 .ensures .0) in
-    let ed : 21 + 6 * c .before .before .before .before .before .before .before .before .byte-of .result + 2 * c .before .before .before .before .before .before .before .byte-of2 .result + 2 * c .before .before .before .before .before .before .byte-of3 .result ≡ sheetEnd 12 (pStated sh) (sStated sh) (dStated sh) = ap₂ (λ (x y : ℕ). x + 2 * y) es (c .before .before .before .before .before .before .byte-of3 .ensures .0) in
-    sym (streams-off sh long zero pipes (λ e. omega (arith, c .if4 .taken, c .before .two-at2 .ensures)))
+returns-4 c = sym (off (test-4 (c .before)) (c .if4 .taken))
 
 two-at-requires-3 : tie.Need-two-at-requires-3
 two-at-requires-3 c κs = search needs
 
 returns-5 : tie.Need-returns-5
-returns-5 c =
-    let sh = c .before .before .before .before .before .before .before .before .before .before .before .before .before .args .sheet .now in
-    let long : 21 ≤ length sh = search needs in
-    let zero : getD sh 3 0 ≡ 0 = sym (c .before .before .before .before .before .before .before .byte-of4 .ensures .0) ∙ c .before .before .before .before .before .before .if2 .left in
-    let pipes : twoAt sh 4 ≡ 21 = sym (c .before .before .before .before .before .two-at .ensures) ∙ c .before .before .before .before .if3 .left in
-    let ep : 21 + 6 * c .before .before .before .before .before .before .before .before .before .before .byte-of .result ≡ streamsFrom 12 (pStated sh) = ap (λ (k : ℕ). 21 + 6 * k) (c .before .before .before .before .before .before .before .before .before .before .byte-of .ensures .0) in
-    let es : 21 + 6 * c .before .before .before .before .before .before .before .before .before .before .byte-of .result + 2 * c .before .before .before .before .before .before .before .before .before .byte-of2 .result ≡ sectionsFrom 12 (pStated sh) (sStated sh) = ap₂ (λ (x y : ℕ). x + 2 * y) ep (c .before .before .before .before .before .before .before .before .before .byte-of2 .ensures .0) in
-    let ed : 21 + 6 * c .before .before .before .before .before .before .before .before .before .before .byte-of .result + 2 * c .before .before .before .before .before .before .before .before .before .byte-of2 .result + 2 * c .before .before .before .before .before .before .before .before .byte-of3 .result ≡ sheetEnd 12 (pStated sh) (sStated sh) (dStated sh) = ap₂ (λ (x y : ℕ). x + 2 * y) es (c .before .before .before .before .before .before .before .before .byte-of3 .ensures .0) in
-    let streams : twoAt sh 6 ≡ streamsFrom 12 (pStated sh) = sym (c .before .before .before .two-at2 .ensures) ∙ c .before .before .if4 .left ∙ ep in
-    sym (sections-off sh long zero pipes streams (λ e. omega (arith, c .if5 .taken, c .before .two-at3 .ensures)))
+returns-5 c = sym (off (test-5 (c .before)) (c .if5 .taken))
 
 two-at-requires-4 : tie.Need-two-at-requires-4
 two-at-requires-4 c κs = search needs
 
 returns-6 : tie.Need-returns-6
-returns-6 c =
-    let sh = c .before .before .before .before .before .before .before .before .before .before .before .before .before .before .before .args .sheet .now in
-    let long : 21 ≤ length sh = search needs in
-    let zero : getD sh 3 0 ≡ 0 = sym (c .before .before .before .before .before .before .before .before .before .byte-of4 .ensures .0) ∙ c .before .before .before .before .before .before .before .before .if2 .left in
-    let pipes : twoAt sh 4 ≡ 21 = sym (c .before .before .before .before .before .before .before .two-at .ensures) ∙ c .before .before .before .before .before .before .if3 .left in
-    let ep : 21 + 6 * c .before .before .before .before .before .before .before .before .before .before .before .before .byte-of .result ≡ streamsFrom 12 (pStated sh) = ap (λ (k : ℕ). 21 + 6 * k) (c .before .before .before .before .before .before .before .before .before .before .before .before .byte-of .ensures .0) in
-    let es : 21 + 6 * c .before .before .before .before .before .before .before .before .before .before .before .before .byte-of .result + 2 * c .before .before .before .before .before .before .before .before .before .before .before .byte-of2 .result ≡ sectionsFrom 12 (pStated sh) (sStated sh) = ap₂ (λ (x y : ℕ). x + 2 * y) ep (c .before .before .before .before .before .before .before .before .before .before .before .byte-of2 .ensures .0) in
-    let ed : 21 + 6 * c .before .before .before .before .before .before .before .before .before .before .before .before .byte-of .result + 2 * c .before .before .before .before .before .before .before .before .before .before .before .byte-of2 .result + 2 * c .before .before .before .before .before .before .before .before .before .before .byte-of3 .result ≡ sheetEnd 12 (pStated sh) (sStated sh) (dStated sh) = ap₂ (λ (x y : ℕ). x + 2 * y) es (c .before .before .before .before .before .before .before .before .before .before .byte-of3 .ensures .0) in
-    let streams : twoAt sh 6 ≡ streamsFrom 12 (pStated sh) = sym (c .before .before .before .before .before .two-at2 .ensures) ∙ c .before .before .before .before .if4 .left ∙ ep in
-    let sections : twoAt sh 8 ≡ sectionsFrom 12 (pStated sh) (sStated sh) = sym (c .before .before .before .two-at3 .ensures) ∙ c .before .before .if5 .left ∙ es in
-    sym (end-off sh long zero pipes streams sections (λ e. omega (arith, c .if6 .taken, c .before .two-at4 .ensures)))
+returns-6 c = sym (off (test-6 (c .before)) (c .if6 .taken))
 
 returns-7 : tie.Need-returns-7
-returns-7 c =
-    let sh = c .before .before .before .before .before .before .before .before .before .before .before .before .before .before .before .args .sheet .now in
-    let long : 21 ≤ length sh = search needs in
-    let zero : getD sh 3 0 ≡ 0 = sym (c .before .before .before .before .before .before .before .before .before .byte-of4 .ensures .0) ∙ c .before .before .before .before .before .before .before .before .if2 .left in
-    let pipes : twoAt sh 4 ≡ 21 = sym (c .before .before .before .before .before .before .before .two-at .ensures) ∙ c .before .before .before .before .before .before .if3 .left in
-    let ep : 21 + 6 * c .before .before .before .before .before .before .before .before .before .before .before .before .byte-of .result ≡ streamsFrom 12 (pStated sh) = ap (λ (k : ℕ). 21 + 6 * k) (c .before .before .before .before .before .before .before .before .before .before .before .before .byte-of .ensures .0) in
-    let es : 21 + 6 * c .before .before .before .before .before .before .before .before .before .before .before .before .byte-of .result + 2 * c .before .before .before .before .before .before .before .before .before .before .before .byte-of2 .result ≡ sectionsFrom 12 (pStated sh) (sStated sh) = ap₂ (λ (x y : ℕ). x + 2 * y) ep (c .before .before .before .before .before .before .before .before .before .before .before .byte-of2 .ensures .0) in
-    let ed : 21 + 6 * c .before .before .before .before .before .before .before .before .before .before .before .before .byte-of .result + 2 * c .before .before .before .before .before .before .before .before .before .before .before .byte-of2 .result + 2 * c .before .before .before .before .before .before .before .before .before .before .byte-of3 .result ≡ sheetEnd 12 (pStated sh) (sStated sh) (dStated sh) = ap₂ (λ (x y : ℕ). x + 2 * y) es (c .before .before .before .before .before .before .before .before .before .before .byte-of3 .ensures .0) in
-    let streams : twoAt sh 6 ≡ streamsFrom 12 (pStated sh) = sym (c .before .before .before .before .before .two-at2 .ensures) ∙ c .before .before .before .before .if4 .left ∙ ep in
-    let sections : twoAt sh 8 ≡ sectionsFrom 12 (pStated sh) (sStated sh) = sym (c .before .before .before .two-at3 .ensures) ∙ c .before .before .if5 .left ∙ es in
-    let end : twoAt sh 10 ≡ sheetEnd 12 (pStated sh) (sStated sh) (dStated sh) = sym (c .before .two-at4 .ensures) ∙ c .if6 .left ∙ ed in
-    ap (λ (k : ℕ). not (eqb (length sh) k)) ed ∙ sym (length-left sh long zero pipes streams sections end)
+returns-7 c = sym (last (passed (test-6 (c .before)) (c .if6 .left)))
 
 pub header-wrong-spec : {M : Type 1} → statement M
 header-wrong-spec =
