@@ -21,10 +21,17 @@ clocks top g r (b ∷ l) = clocks top g (clock top g r b) l
 unfoldable pub crcOf : ℕ → ℕ → List ℕ → ℕ
 crcOf n g l = 2 ^ n - 1 - clocks (2 ^ (n - 1)) g (2 ^ n - 1) l
 
--- x^8 + x^5 + x^3 + x^2 + x + 1 (clause 4.3), over the n bits at a place of packed bytes
-unfoldable pub crc8Of : List ℕ → ℕ → ℕ → ℕ
-crc8Of w at n = crcOf 8 0x2F (tab (bitAt w) at n)
+-- x^8 + x^5 + x^3 + x^2 + x + 1 (clause 4.3)
+abbrev pub crc8 : List ℕ → ℕ
+crc8 l = crcOf 8 0x2F l
 
 -- x^12 + x^11 + x^3 + x^2 + x + 1 (clause 4.10.1.3)
+abbrev pub crc12 : List ℕ → ℕ
+crc12 l = crcOf 12 0x80F l
+
+-- the same over the n bits at a place of packed bytes
+unfoldable pub crc8Of : List ℕ → ℕ → ℕ → ℕ
+crc8Of w at n = crc8 (tab (bitAt w) at n)
+
 unfoldable pub crc12Of : List ℕ → ℕ → ℕ → ℕ
-crc12Of w at n = crcOf 12 0x80F (tab (bitAt w) at n)
+crc12Of w at n = crc12 (tab (bitAt w) at n)

@@ -18,7 +18,7 @@ use Rattle.bits.specs.Lists.{Below, unpack, pack}
 use Rattle.bits.proofs.Lists.{unpack-length, unpack-below, unpack-pack, pack-unpack}
 use Rattle.description.specs.Description.{Description, listsOf, describe}
 use Rattle.description.specs.Rules.{Keeps}
-use Rattle.description.specs.Layout.{body, padded, sealed, layout}
+use Rattle.description.specs.Layout.{body, padded, sealed, wordOf, layout}
 use Rattle.description.specs.Sheet.{sheetOf, sheet}
 use Rattle.description.specs.Word.{pIn, sIn, dIn, listsIn, wordFaults, readRefusal, front, surveyed, reading}
 use Rattle.description.proofs.Deal.{Counted, Sized, lists-describe, describe-lists, counted, sized}
@@ -46,7 +46,7 @@ module _ (d : Description) (k : Keeps d) where
   e = clean-keeps d k
 
   pub unpack-layout : unpack (layout d) ≡ sealed (padded (body (listsOf d)))
-  unfolding layout
+  unfolding layout wordOf
   unpack-layout = unpack-pack 96 (sealed (padded (body (listsOf d)))) (sealed-below (listsOf d)) (sealed-length (listsOf d) s c e)
 
   pub lists-layout : listsIn (unpack (layout d)) ≡ listsOf d
@@ -72,7 +72,7 @@ module _ (w : List ℕ) (bytes : Below 256 w) (n : length w ≡ 96) (h : firstOf
   lists-described = lists-describe (listsIn (unpack w)) (counted-in (unpack w))
 
   pub layout-described : layout (described w) ≡ w
-  unfolding layout
+  unfolding layout wordOf
   layout-described =
       ap (λ l. pack 96 (sealed (padded (body l)))) lists-described
       ∙ ap (pack 96) (sealed-read (unpack w) (unpack-below w) long p)

@@ -16,9 +16,9 @@ use Rattle.ground.proofs.Choice.{choose-true, choose-false, first-clear}
 use Rattle.bits.specs.Lists.{Below}
 use Rattle.description.specs.Description.{Description, listsOf, describe}
 use Rattle.description.specs.Rules.{Keeps}
-use Rattle.description.specs.Layout.{layout}
+use Rattle.description.specs.Layout.{wordOf, layout}
 use Rattle.description.specs.Sheet.{sheetOf, sheet}
-use Rattle.description.specs.Form1.{listsStated, sheetFaults, writeRefusal, wordOf, writing}
+use Rattle.description.specs.Form1.{listsStated, sheetFaults, writeRefusal, writing}
 use Rattle.description.proofs.Deal.{lists-describe, describe-lists, counted, sized}
 use Rattle.description.proofs.Sound.{Sound}
 use Rattle.description.proofs.Keeps.{Clean, sized-keeps, sound-keeps, clean-keeps, keeps-clean}

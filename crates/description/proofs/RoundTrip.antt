@@ -16,7 +16,7 @@ use Rattle.bits.specs.Lists.{Below, unpack}
 use Rattle.bits.proofs.Lists.{pack-length}
 use Rattle.description.specs.Description.{Description, listsOf}
 use Rattle.description.specs.Rules.{Keeps}
-use Rattle.description.specs.Layout.{layout}
+use Rattle.description.specs.Layout.{wordOf, layout}
 use Rattle.description.specs.Sheet.{sheetEnd, header, sheetOf, sheet}
 use Rattle.description.specs.Word.{wordFaults, front, reading}
 use Rattle.description.specs.Form1.{twoAt, sheetFaults, writeRefusal, writing}
@@ -46,7 +46,7 @@ module _ (d : Description) (k : Keeps d) where
   sheet-written word n = accepted-writing (sheet d) word (length-right (sheet d) word n ∙ clear-sheet d k) ∙ ap wrote (word-of-sheet d k)
 
   pub layout-read : (out : List ℕ) → 128 ≤ length out → (reading (layout d) out .answer .number ≡ 0) × (reading (layout d) out .memory ≡ front (sheet d) out)
-  unfolding layout
+  unfolding layout wordOf
   layout-read out room =
       let a = accepted-outcome (layout d) out (lengths-right (layout d) out (pack-length 96 _) room ∙ accepted-layout d k) in
       (a .0, a .1 ∙ ap (λ (x : List ℕ). front x out) (the-sheet (layout d) d k refl))

@@ -6,12 +6,12 @@ use mathlib.Core.List.{List, [], _∷_, _++_, map}
 use lib.Dec.{eqb, ltb}
 use lib.ListN.{length, getD, drop}
 use Rattle.ground.specs.Outcome.{Outcome, Told}
-use Rattle.ground.specs.Choice.{choose, either, any, Fault, refuse, firstOf}
-use Rattle.bits.specs.Lists.{unpack, pack}
+use Rattle.ground.specs.Choice.{choose, either, Fault, refuse, firstOf, verdict}
+use Rattle.bits.specs.Lists.{unpack}
 use Rattle.description.specs.Rows.{cut, cuts}
 use Rattle.description.specs.Fields.{table15, table16, table16b, table18, table19, numPipes1, stsId, numTapsDiv2}
 use Rattle.description.specs.Description.{Lists, streamCount, sectionCount}
-use Rattle.description.specs.Layout.{body, padded, sealed}
+use Rattle.description.specs.Layout.{wordOf}
 use Rattle.description.specs.Sheet.{pipesFrom, streamsFrom, sectionsFrom, sheetEnd}
 use Rattle.description.specs.Tests.{versionFault, listsFault, anySet, widthFault, tapFault, idFault}
 
@@ -89,20 +89,13 @@ sheetFaults sh =
 
 -- what the check of a sheet says: the counts, or the first refusal
 unfoldable pub checked : List ℕ → Told
-checked sh =
-    choose (eqb (firstOf (sheetFaults sh)) 0)
-    (record { number = 0; values = pStated sh ∷ sStated sh ∷ dStated sh ∷ [] })
-    (record { number = firstOf (sheetFaults sh); values = [] })
+checked sh = verdict (sheetFaults sh) (pStated sh ∷ sStated sh ∷ dStated sh ∷ [])
 
 -- ---- the writer's outcome
 
 -- 1: the word is not 96 bytes
 unfoldable pub writeRefusal : List ℕ → List ℕ → ℕ
 writeRefusal sh word = firstOf (refuse 1 (not (eqb (length word) 96)) ∷ sheetFaults sh)
-
--- the word of lists (table 14)
-unfoldable pub wordOf : Lists → List ℕ
-wordOf l = pack 96 (sealed (padded (body l)))
 
 -- accepted: 0, with the number of words written
 unfoldable pub writing : List ℕ → List ℕ → Outcome Told (List ℕ)

@@ -4,7 +4,7 @@ use Prim.Native.Nat.{ℕ, _-_}
 use mathlib.Core.List.{List, _++_}
 use lib.ListN.{length, replicate}
 use Rattle.bits.specs.Lists.{bits, pack}
-use Rattle.crc.specs.Crc.{crcOf}
+use Rattle.crc.specs.Crc.{crc12}
 use Rattle.description.specs.Rows.{join, joins}
 use Rattle.description.specs.Fields.{table15, table16, table16b, table18, table19}
 use Rattle.description.specs.Description.{Description, Lists, listsOf}
@@ -23,8 +23,11 @@ padded b = b ++ replicate (750 - length b) 0
 
 -- the CRC-12 over those 750 bits, and the six spare bits
 unfoldable pub sealed : List ℕ → List ℕ
-sealed b = b ++ (bits 12 (crcOf 12 0x80F b) ++ replicate 6 0)
+sealed b = b ++ (bits 12 (crc12 b) ++ replicate 6 0)
 
--- the 96 bytes
+-- the 96 bytes, of lists and of a description
+unfoldable pub wordOf : Lists → List ℕ
+wordOf l = pack 96 (sealed (padded (body l)))
+
 unfoldable pub layout : Description → List ℕ
-layout d = pack 96 (sealed (padded (body (listsOf d))))
+layout d = wordOf (listsOf d)

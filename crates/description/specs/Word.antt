@@ -6,9 +6,9 @@ use mathlib.Core.List.{List, [], _∷_, _++_, map}
 use lib.Dec.{eqb, ltb}
 use lib.ListN.{length, take, drop}
 use Rattle.ground.specs.Outcome.{Outcome, Told}
-use Rattle.ground.specs.Choice.{choose, either, Fault, refuse, firstOf}
+use Rattle.ground.specs.Choice.{choose, either, Fault, refuse, firstOf, verdict}
 use Rattle.bits.specs.Lists.{num, unpack}
-use Rattle.crc.specs.Crc.{crcOf}
+use Rattle.crc.specs.Crc.{crc12}
 use Rattle.description.specs.Rows.{cut, cuts}
 use Rattle.description.specs.Fields.{table15, table16, table16b, table18, table19, numPipes1, stsId, numTapsDiv2}
 use Rattle.description.specs.Description.{Lists, streamCount, sectionCount}
@@ -54,7 +54,7 @@ spareFault b = anySet (drop 762 b)
 
 -- 5: the CRC is wrong
 unfoldable pub crcFault : List ℕ → Bool
-crcFault b = not (eqb (num (take 12 (drop 750 b))) (crcOf 12 0x80F (take 750 b)))
+crcFault b = not (eqb (num (take 12 (drop 750 b))) (crc12 (take 750 b)))
 
 -- 8: a bit after the lists and before 750 is set
 unfoldable pub paddingFault : List ℕ → Bool
@@ -84,10 +84,7 @@ front sheet out = sheet ++ drop (length sheet) out
 
 -- what the tests of a word's bits say: the counts, or the first refusal
 unfoldable pub surveyed : List ℕ → Told
-surveyed b =
-    choose (eqb (firstOf (wordFaults b)) 0)
-    (record { number = 0; values = pIn b ∷ sIn b ∷ dIn b ∷ [] })
-    (record { number = firstOf (wordFaults b); values = [] })
+surveyed b = verdict (wordFaults b) (pIn b ∷ sIn b ∷ dIn b ∷ [])
 
 unfoldable pub reading : List ℕ → List ℕ → Outcome Told (List ℕ)
 reading w out =

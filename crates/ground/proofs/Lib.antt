@@ -1,5 +1,6 @@
 pub mod Outcome
 pub mod Choice
+pub mod Refusing
 pub mod Table
 pub mod Copy
 pub mod Repeat

@@ -9,11 +9,12 @@ use borrow.Author.Tests.{eq-eqb, ne-eqb}
 use lib.Dec.{eqb}
 use lib.ListN.{length, take}
 use Rattle.ground.specs.Outcome.{Is, Told}
-use Rattle.ground.specs.Choice.{choose}
+use Rattle.ground.specs.Choice.{choose, refusing}
 use Rattle.ground.proofs.Choice.{choose-true, choose-false}
+use Rattle.ground.proofs.Refusing.{refusal-leaves, acceptance-leaves}
 use Rattle.payload.specs.Suffix.{idOf, kindOf, versionOf}
 use Rattle.payload.specs.Word.{packetBytes, rfuOf, wordOf}
-use Rattle.payload.specs.Answers.{refusing, writeRefusal, written, readRefusal, told, reading, shown, headerBytes, readInto}
+use Rattle.payload.specs.Answers.{writeRefusal, written, readRefusal, told, reading, shown, headerBytes, readInto}
 use Rattle.payload.proofs.Faults.{Writable, write-0, writable, readable}
 use Rattle.payload.specs.declared.Header.{Header}
 use Rattle.payload.specs.declared.Header.the-variants.{Fields, Refused}
@@ -25,13 +26,12 @@ chooses n x y e = choose-true x y (eq-eqb n 0 e)
 leaves : {A : Type 0} (n : ℕ) (x y : A) → 0 < n → choose (eqb n 0) x y ≡ y
 leaves n x y h = choose-false x y (ne-eqb n 0 (λ e. omega arith))
 
--- a refusal touches nothing
+-- a refusal touches nothing, and an accepted call leaves the new contents
 pub refused : (n : ℕ) (new old : List ℕ) (r : ℕ) → r ≡ n → 0 < r → Is (refusing n new old) r old
-refused n new old r e h = record { answer = e; memory = sym (leaves n new old (omega arith)) }
+refused n new old r e h = refusal-leaves n new old e (λ z. omega (arith, z))
 
--- an accepted call leaves the new contents
 pub done : (n : ℕ) (new old : List ℕ) (m : List ℕ) → 0 ≡ n → m ≡ new → Is (refusing n new old) 0 m
-done n new old m e h = record { answer = e; memory = h ∙ sym (chooses n new old (sym e)) }
+done n new old m e h = acceptance-leaves n new old (sym e) h
 
 module _ (w : List ℕ) where
   pub tells-refusal : (n : ℕ) → n ≡ readRefusal w → 0 < n → told (Refused n) ≡ reading w

@@ -6,16 +6,12 @@ use mathlib.Core.List.{List, [], _∷_, _++_}
 use lib.Dec.{eqb, ltb}
 use lib.ListN.{length, take, replicate}
 use Rattle.ground.specs.Outcome.{Outcome, Told}
-use Rattle.ground.specs.Choice.{choose, Fault, refuse, firstOf}
+use Rattle.ground.specs.Choice.{choose, Fault, refuse, firstOf, refusing}
 use Rattle.bits.specs.Lists.{bits, pack}
 use Rattle.payload.specs.Suffix.{idOf, kindOf, versionOf, crcFieldOf, spareOf, coveredOf, headerCrc}
 use Rattle.payload.specs.Word.{packetBytes, rfuOf, wordOf}
 use Rattle.payload.specs.declared.Header.{Header}
 use Rattle.payload.specs.declared.Header.the-variants.{Fields, Refused}
-
--- a call that has this refusal: 0 leaves the new contents, any other number what was there
-abbrev pub refusing : ℕ → List ℕ → List ℕ → Outcome ℕ (List ℕ)
-refusing n new old = record { answer = n; memory = choose (eqb n 0) new old }
 
 -- "write": 15, 1, of a stream type and the lengths of the packet and of the word
 abbrev pub writeFaults : ℕ → ℕ → ℕ → List Fault

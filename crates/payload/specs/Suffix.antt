@@ -5,7 +5,7 @@ use mathlib.Core.List.{List, _++_}
 use Rattle.ground.specs.Table.{tab}
 use Rattle.bits.specs.Lists.{bits}
 use Rattle.bits.specs.Places.{bitAt, fieldAt}
-use Rattle.crc.specs.Crc.{crcOf}
+use Rattle.crc.specs.Crc.{crc8}
 
 -- STS_ID, STS_Stream_Type_ID, Encap_Ver and HeaderCRC stand at the same bits in each word; the spare bits are document 01's
 abbrev pub idOf : List ℕ → ℕ
@@ -33,7 +33,7 @@ coveredOf w = tab (bitAt w) (12274 - covered (kindOf w)) (covered (kindOf w))
 
 -- HeaderCRC: x^8 + x^5 + x^3 + x^2 + x + 1 over the covered bits (clause 4.3, annex B)
 unfoldable pub headerCrc : List ℕ → ℕ
-headerCrc h = crcOf 8 0x2F h
+headerCrc h = crc8 h
 
 -- the covered bits of a word that is written: what its stream type has before STS_ID, then the fields of every type
 unfoldable pub header : List ℕ → ℕ → ℕ → ℕ → List ℕ

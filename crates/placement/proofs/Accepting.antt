@@ -13,6 +13,7 @@ use borrow.Author.Tests.{eq-eqb, ne-eqb, eqb-true}
 use Rattle.ground.specs.Choice.{choose, Fault, refuse, firstOf}
 use Rattle.ground.specs.Outcome.{Is}
 use Rattle.ground.proofs.Choice.{choose-true, choose-false}
+use Rattle.ground.proofs.Refusing.{refusal-leaves, acceptance-leaves}
 use Rattle.ground.proofs.Table.{tab-ext}
 use Rattle.patterns.specs.Rows.{copies}
 use Rattle.patterns.specs.Blocks.{blockBy, blockFaults, Coded}
@@ -36,16 +37,14 @@ placed-is p n values lane h =
 -- a refusal leaves the lane as it was
 pub refused : (p r : ℕ) (values lane : List ℤ) → r ≡ firstOf (faults p (blockOf lane) (length values)) → (r ≡ 0 → ⊥) → Is (placing p values lane) r lane
 unfolding placing
-refused p r values lane e h = record { answer = e; memory = sym (choose-false _ lane (ne-eqb (firstOf (faults p (blockOf lane) (length values))) 0 (λ z. h (e ∙ z)))) }
+refused p r values lane e h = refusal-leaves (firstOf (faults p (blockOf lane) (length values))) (placed p (blockOf lane) values) lane e h
 
 pub wrote : (p n : ℕ) (values lane lane' : List ℤ) → n ≡ blockOf lane → firstOf (faults p (blockOf lane) (length values)) ≡ 0 → Placed p n values lane'
     → Is (placing p values lane) 0 lane'
 unfolding placing
-wrote p n values lane lane' en z h = record {
-  answer = sym z;
-  memory = placed-is p n values lane' h ∙ ap (λ (m : ℕ). placed p m values) en
-      ∙ sym (choose-true _ lane (eq-eqb (firstOf (faults p (blockOf lane) (length values))) 0 z));
-}
+wrote p n values lane lane' en z h =
+    acceptance-leaves (firstOf (faults p (blockOf lane) (length values))) (placed p (blockOf lane) values) lane z
+    (placed-is p n values lane' h ∙ ap (λ (m : ℕ). placed p m values) en)
 
 -- a lane's length is that of its block's places
 lane-length : (len : ℕ) → (blockBy 61440 3840 len ≡ 0 → ⊥) → len ≡ places (blockBy 61440 3840 len)

@@ -8,7 +8,7 @@ use lib.Dec.{eqb}
 use lib.ListN.{length}
 use lib.IntN.{ℤ, pos, _+ℤ_}
 use Rattle.ground.specs.Outcome.{Outcome}
-use Rattle.ground.specs.Choice.{choose, Fault, refuse, firstOf}
+use Rattle.ground.specs.Choice.{choose, Fault, refuse, firstOf, refusing}
 use Rattle.ground.specs.Table.{tab}
 use Rattle.patterns.specs.Blocks.{blockBy, blockFaults}
 use Rattle.patterns.specs.Sent.{places, sent, codeLength}
@@ -40,5 +40,4 @@ faults p n values = blockFaults p n ++ (refuse 1 (not (eqb values (codeLength p 
 unfoldable pub placing : ℕ → List ℤ → List ℤ → Outcome ℕ (List ℤ)
 placing p values lane =
     let n : ℕ = blockOf lane in
-    let r : ℕ = firstOf (faults p n (length values)) in
-    record { answer = r; memory = choose (eqb r 0) (placed p n values) lane }
+    refusing (firstOf (faults p n (length values))) (placed p n values) lane

@@ -1,11 +1,12 @@
 -- The start-of-frame preamble (clause 4.10.1.2, whose last word drops an F: document 01 decides).
 -- Assumes nothing.
 use Prim.Native.Nat.{ℕ}
+use mathlib.Core.Bool.{not}
 use mathlib.Core.List.{List, [], _∷_}
 use lib.Dec.{eqb}
 use lib.ListN.{length}
 use Rattle.ground.specs.Outcome.{Outcome}
-use Rattle.ground.specs.Choice.{choose}
+use Rattle.ground.specs.Choice.{refuse, firstOf, refusing}
 
 -- the words of the standard in their order: "SOF preamble: New C-TS frame", and the padding that makes ones and zeros equally many
 unfoldable pub sof : List ℕ
@@ -21,4 +22,4 @@ sof =
 
 -- the preamble written into 32 bytes exactly; any other length is refused with 1, and nothing is touched
 unfoldable pub written : List ℕ → Outcome ℕ (List ℕ)
-written out = choose (eqb (length out) 32) (record { answer = 0; memory = sof }) (record { answer = 1; memory = out })
+written out = refusing (firstOf (refuse 1 (not (eqb (length out) 32)) ∷ [])) sof out

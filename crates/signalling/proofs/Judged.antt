@@ -21,7 +21,8 @@ use Rattle.description.specs.Description.{Lists, ownSections, streamCount, sect
 use Rattle.description.specs.Rules.{size}
 use Rattle.description.specs.Sheet.{sheetEnd}
 use Rattle.description.specs.Tests.{versionFault, listsFault, anySet, widthFault, tapFault, idFault}
-use Rattle.description.specs.Form1.{pStated, sStated, dStated, headerFault, sheetLists, listsStated, topFault, countFault, sheetFaults, checked, writeRefusal, wordOf, writing}
+use Rattle.description.specs.Form1.{pStated, sStated, dStated, headerFault, sheetLists, listsStated, topFault, countFault, sheetFaults, checked, writeRefusal, writing}
+use Rattle.description.specs.Layout.{wordOf}
 use Rattle.description.proofs.Tests.{lists-clear}
 use Rattle.description.proofs.Restated.{right-header}
 use Rattle.description.proofs.DemandWrite.{length-right}

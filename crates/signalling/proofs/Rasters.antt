@@ -22,8 +22,8 @@ use Rattle.description.specs.Rows.{width, join, cut, joins, cuts}
 use Rattle.description.specs.Fields.{table15, table16, table16b, table18, table19}
 use Rattle.description.specs.Description.{Lists}
 use Rattle.description.specs.Rules.{size}
-use Rattle.description.specs.Layout.{body, padded, sealed}
-use Rattle.description.specs.Form1.{bare, sheetSections, sheetLists, wordOf}
+use Rattle.description.specs.Layout.{body, padded, sealed, wordOf}
+use Rattle.description.specs.Form1.{bare, sheetSections, sheetLists}
 use Rattle.description.specs.Sheet.{sheetEnd}
 use Rattle.description.proofs.Rows.{join-length, joins-length, join-cut, joins-cuts, joins-at, cuts-at, cuts-length}
 use Rattle.description.proofs.Word.{body-below}

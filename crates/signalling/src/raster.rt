@@ -7,7 +7,8 @@ ghost use lib.Seq.{paste};
 ghost use Rattle.bits.specs.Lists.{bits, num, unpack, pack, Below};
 ghost use Rattle.description.specs.Rows.{cuts, joins};
 ghost use Rattle.description.specs.Fields.{table19};
-ghost use Rattle.description.specs.Form1.{bare, sheetLists, wordOf};
+ghost use Rattle.description.specs.Form1.{bare, sheetLists};
+ghost use Rattle.description.specs.Layout.{wordOf};
 ghost use Rattle.signalling.specs.Filled.{Stated};
 
 // The n bits that stand at a place of packed bytes, into a raster from a place on.

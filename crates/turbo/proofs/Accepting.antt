@@ -12,6 +12,7 @@ use borrow.Author.Tests.{eqb-true, not-false, eq-eqb, ne-eqb}
 use Rattle.ground.specs.Choice.{choose}
 use Rattle.ground.specs.Outcome.{Is}
 use Rattle.ground.proofs.Choice.{choose-true, choose-false, all-clear}
+use Rattle.ground.proofs.Refusing.{refusal-leaves, acceptance-leaves}
 use Rattle.bits.specs.Lists.{bits, num, Below}
 use Rattle.bits.specs.Places.{bitAt, packed}
 use Rattle.bits.proofs.Lists.{bits-num}
@@ -98,13 +99,11 @@ bits-of p n w lane₀ lane g =
 pub wrote : (p n : ℕ) (w lane₀ lane out out' : List ℕ) → n ≡ blockOf w → refusal p w (length out) ≡ 0 → Grouped w n lane₀ lane
     → out' ≡ packed (λ k. getD (spread (copies p n) (byteBit lane) (places n)) k 0) (length out) → Is (encoded p w out) 0 out'
 unfolding encoded codeword
-wrote p n w lane₀ lane out out' en z g e = record {
-  answer = sym z;
-  memory = e ∙ ap₂ (λ (x : List ℕ) (m : ℕ). packed (λ k. getD x k 0) m) (bits-of p n w lane₀ lane g ∙ ap (λ (m : ℕ). codeBits p m w) en) (accepted p w (length out) z .size)
-      ∙ sym (choose-true _ out (eq-eqb (refusal p w (length out)) 0 z));
-}
+wrote p n w lane₀ lane out out' en z g e =
+    acceptance-leaves (refusal p w (length out)) (codeword p (blockOf w) w) out z
+    (e ∙ ap₂ (λ (x : List ℕ) (m : ℕ). packed (λ k. getD x k 0) m) (bits-of p n w lane₀ lane g ∙ ap (λ (m : ℕ). codeBits p m w) en) (accepted p w (length out) z .size))
 
 -- a refusal leaves the bytes as they were
 pub refused : (p r : ℕ) (w out : List ℕ) → r ≡ refusal p w (length out) → (r ≡ 0 → ⊥) → Is (encoded p w out) r out
 unfolding encoded
-refused p r w out e h = record { answer = e; memory = sym (choose-false _ out (ne-eqb (refusal p w (length out)) 0 (λ z. h (e ∙ z)))) }
+refused p r w out e h = refusal-leaves (refusal p w (length out)) (codeword p (blockOf w) w) out e h
