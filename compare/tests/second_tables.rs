@@ -5,7 +5,7 @@ use compare::second::description::{Multiplex, PipeFields, Section, Stream, TailF
 use compare::second::interleaver::{addresses, entry, parameter, tentative};
 use compare::second::patterns::pattern;
 
-/// Tables 12 and 13 of 004: rate, code bits, capacity units.
+/// Tables 12 and 13 of the standard: rate, code bits, capacity units.
 const TABLE_13: [(&str, usize, u32); 14] = [
     ("1/5", 61_440, 30),
     ("2/9", 55_296, 27),
@@ -23,7 +23,7 @@ const TABLE_13: [(&str, usize, u32); 14] = [
     ("6/7", 14_336, 7),
 ];
 
-/// Table 11 of 004: the rates of patterns 0 to 27.
+/// Table 11 of the standard: the rates of patterns 0 to 27.
 const TABLE_11: &str = "1/5 2/9 1/4 2/7 3/10 1/3 1/3 3/8 3/8 2/5 2/5 3/7 3/7 1/2 1/2 1/2 3/5 3/5 \
                         3/5 2/3 2/3 2/3 3/4 3/4 3/4 6/7 6/7 6/7";
 
@@ -70,7 +70,7 @@ fn length_rule_for_all_patterns() {
     assert!(pattern(256).is_none() && pattern(u32::MAX).is_none());
 }
 
-/// Tables 7 and 8 as 004 shows them, damage included.
+/// Tables 7 and 8 as the text of the standard shows them, damage included.
 const TABLE_7: &str = include_str!("table_7.txt");
 const TABLE_8: &str = include_str!("table_8.txt");
 
@@ -88,7 +88,7 @@ fn groups(text: &str) -> Vec<Vec<u8>> {
         .collect()
 }
 
-/// Whether a row of 004 is whole: groups of five, and the length rule.
+/// Whether a row of the text is whole: groups of five, and the length rule.
 fn is_whole(groups: &[Vec<u8>]) -> bool {
     groups.iter().all(|group| group.len() == 5)
 }
@@ -109,7 +109,7 @@ fn rows_against_the_standard() {
         if tail != ours_tail {
             differ.push((number, "tail"));
         }
-        // A row that 01 does not call damaged is as 004 has it.
+        // A row that 01 does not call damaged is as the standard has it.
         if !DAMAGED.contains(&number) {
             assert!(is_whole(&data) && is_whole(&tail), "row {number}");
             assert_eq!(data, ours, "row {number}");
@@ -132,7 +132,7 @@ fn rows_against_the_standard() {
     );
 }
 
-/// The damaged rows against what is legible of them in 004.
+/// The damaged rows against what is legible of them in the text.
 #[test]
 fn damaged_rows_as_far_as_legible() {
     let theirs = |number: usize| groups(TABLE_7.lines().nth(number).unwrap());
@@ -237,9 +237,9 @@ fn every_address_once() {
     }
 }
 
-/// The place of each field: the start bit indexes of 004's tables. (004 drops
-/// the start of Inter_Schedule_Period_Countdown_Slots, Schedule_Index and
-/// Codeword_Align_Flag; 26, 44 and 6 are what is left.)
+/// The place of each field: the start bit indexes of the standard's tables. (Its
+/// text drops the start of Inter_Schedule_Period_Countdown_Slots, Schedule_Index
+/// and Codeword_Align_Flag; 26, 44 and 6 are what is left.)
 #[test]
 fn places_of_fields() {
     fn record<T: Default>(change: impl Fn(&mut T), write: impl Fn(&T, &mut BitWriter)) -> String {

@@ -122,7 +122,7 @@ impl PipeFields {
     }
 }
 
-/// Table 16b (table 17 in 004's captions), 16 bits: the tail pipe.
+/// Table 16b (table 17 in the standard's captions), 16 bits: the tail pipe.
 #[derive(Clone, Debug, Default, PartialEq, Eq)]
 pub struct TailFields {
     pub punct_pat_id: u32,

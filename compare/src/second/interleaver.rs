@@ -1,14 +1,14 @@
 //! The turbo interleaver (clause 4.4.4) by 01's counter rule.
 
-/// Table 10, typed from 004: index, n = 5, n = 9.
+/// Table 10, typed from the standard: index, n = 5, n = 9.
 ///
-/// 004 has the 32 rows in order, but some cells carry their neighbours too.
+/// Its text has the 32 rows in order, but some cells carry their neighbours too.
 /// An "index" cell does not count, the row's position does: the second row is
 /// labelled 0, the fourth "2 3 4", the eighth "7 8", the ninth is not
 /// labelled, and so on. A glued "entry" cell holds the entries of neighbouring
 /// rows in their order, of which the others stand alone in their own rows;
 /// what is left is the row's own entry. The damaged entry cells are marked
-/// with what 004 shows.
+/// with what the text shows.
 const TABLE_10: [(u8, u32, u32); 32] = [
     (0, 27, 13),
     (1, 3, 335), // n = 5: "27 3 1", rows 0 1 2

@@ -1,6 +1,6 @@
 //! The 28 puncturing patterns, typed as 01's table gives them and expanded
 //! here. (Tables 7, 8 and 11 of the standard; rows 1, 4, 6, 9, 19, 23 and 25
-//! to 27 are damaged in 004, and 01 decides for them. See TABLES.md.)
+//! to 27 are damaged in its text, and 01 decides for them. See TABLES.md.)
 
 use std::sync::OnceLock;
 

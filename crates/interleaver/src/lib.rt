@@ -75,7 +75,7 @@ const ENTRIES9: [usize; 32] = [
     391, // 31
 ];
 
-// Five bits, reversed.
+// The numbers below 32 with their five bits reversed: a table, so that a counter value costs one read, and the proof is one computed test of the 32 entries against the formula (specs/Order.antt). Request 2026-03 of 02 brings the formula here.
 const REVERSED: [usize; 32] = [
     0b00000,
     0b10000,

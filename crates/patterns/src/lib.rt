@@ -8,7 +8,7 @@ ghost use Rattle.patterns.specs.Rates.{unitsOf};
 ghost use Rattle.patterns.specs.Blocks.{blockBy, unpaired, blockFaults};
 ghost use Rattle.patterns.specs.Sent.{codeLength};
 
-// 6 divided by the rate, by pattern number.
+// 6 divided by the rate, by pattern number (table 13, CU_Per_CW).
 const UNITS: [u8; 28] = [
     30,
     27,

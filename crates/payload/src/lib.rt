@@ -22,6 +22,7 @@ pub fn write(kind: u32, id: u8, payload: &[u8], word: &mut [u8]) -> u8
         return n;
     }
     packet::fill(payload, word);
+    // RFU 0, STS_ID, STS_Stream_Type_ID, Encap_Ver 0 (tables 2 and 3)
     suffix::close(word, id as u32 * 64 + kind * 8);
     0
 }
@@ -33,15 +34,19 @@ fn read_refusal(word: &[u8]) -> u8
     if word.len() != 1536 {
         return 1;
     }
+    // the six spare bits (01)
     if suffix::field(word, 12282, 6) != 0 {
         return 2;
     }
+    // HeaderCRC (tables 2 and 3)
     if suffix::field(word, 12274, 8) != suffix::crc(word) {
         return 5;
     }
+    // Encap_Ver (tables 2 and 3)
     if 0 < suffix::field(word, 12271, 3) {
         return 16;
     }
+    // STS_Stream_Type_ID (tables 2 and 3)
     if 1 < suffix::field(word, 12268, 3) {
         return 15;
     }
@@ -56,6 +61,7 @@ pub fn read(word: &[u8]) -> Header
     if 0 < refusal {
         return Header::Refused(refusal);
     }
+    // RFU, STS_ID and STS_Stream_Type_ID (tables 2 and 3)
     let rfu = bits::field(word, 12256, 4);
     let id = suffix::field(word, 12260, 8);
     let kind = suffix::field(word, 12268, 3);
@@ -84,6 +90,7 @@ fn put_header(out: &mut [u8], rfu: u32, id: u8, kind: u8)
     requires { ⌜ length (now out) ≡ 16 ⌝ }
     ensures { λ _. ⌜ now (out .exit) ≡ headerBytes rfu id kind 0 ⌝ }
 {
+    // RFU; STS_ID, STS_Stream_Type_ID and Encap_Ver, a byte each; zeros
     suffix::put32(out, 0, rfu);
     suffix::put32(out, 4, id as u32 * 0x1000000 + kind as u32 * 0x10000);
     suffix::put32(out, 8, 0);

@@ -20,6 +20,7 @@ pub fn field(word: &[u8], at: usize, n: usize) -> u8
 pub fn crc(word: &[u8]) -> u8
     ensures { λ r. ⌜ r ≡ headerCrc (coveredOf (now (word .entry))) ⌝ }
 {
+    // RFU to Encap_Ver (tables 2 and 3)
     crc::crc8(word, 12256, 18)
 }
 
@@ -39,7 +40,9 @@ pub fn close(word: &mut [u8], head: u32)
     requires { ⌜ (length (now word) ≡ 1536) × (head < 2 ^ 18) ⌝ }
     ensures { λ _. ⌜ now (word .exit) ≡ sealed (take 1532 (now (word .entry))) (bits 18 head) ⌝ }
 {
+    // RFU to Encap_Ver, and zeros behind them
     put32(word, 1532, head * 0x4000);
     let crc = crc(word);
+    // the same with HeaderCRC
     put32(word, 1532, head * 0x4000 + crc as u32 * 0x40);
 }

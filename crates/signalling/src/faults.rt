@@ -16,15 +16,17 @@ fn width_wrong(w: &[u8], at: usize) -> bool
     requires { ⌜ (at + 48 ≤ 8 * length (now w)) × (length (now w) ≤ 4096) ⌝ }
     ensures { λ r. ⌜ r ≡ widthWrong (cut table16 (drop at (unpack (now (w .entry))))) ⌝ }
 {
+    // Punct_Pat_ID (table 16)
     let pattern = crate::walk::word_bits(w, at, 6) as usize;
     if 27 < pattern {
         return false;
     }
     let units = patterns::units(pattern) as u32;
+    // Pipe_Width_CUs (table 16)
     crate::walk::word_bits(w, at + 6, 10) % units != 0
 }
 
-// 9: whether some of the p payload pipes at a place has.
+// 9: whether one of the p payload pipes at a place has such a width.
 fn any_width_wrong(w: &[u8], at: usize, p: usize) -> bool
     requires { ⌜ (at + 48 * p ≤ 8 * length (now w)) × (length (now w) ≤ 4096) ⌝ }
     ensures { λ r. ⌜ r ≡ widthFault (cuts table16 p (drop at (unpack (now (w .entry))))) ⌝ }
@@ -47,6 +49,7 @@ fn taps_at(w: &[u8], at: usize, step: usize, n: usize) -> u32
     let mut taps: u32 = 0;
     let mut k: usize = 0;
     while k < n {
+        // Num_Taps_Div2_1 (table 19)
         taps += (crate::walk::word_bits(w, at + step * k, 4) + 1) * 2;
         k += 1;
     }
@@ -58,13 +61,14 @@ fn taps_wrong(w: &[u8], at: usize, sections: usize, step: usize, d: usize) -> bo
     requires { ⌜ (at + 48 ≤ 8 * length (now w)) × (length (now w) ≤ 4096) × (d ≤ 8) × (step ≤ 16) × (sections ≤ 32768) ⌝ }
     ensures { λ r. ⌜ r ≡ tapsWrong (cut table16 (drop at (unpack (now (w .entry))))) (fieldsAt (now (w .entry)) sections step 4 d) ⌝ }
 {
+    // Pipe_Width_CUs (table 16)
     if crate::walk::word_bits(w, at + 6, 10) == 0 {
         return false;
     }
     taps_at(w, sections, step, d) != 32
 }
 
-// 10: whether some of the p payload pipes at a place is; all their sections stand at another.
+// 10: whether one of the p payload pipes at a place is in use without 32 taps; their sections stand at another place, in the order of the pipes.
 fn any_taps_wrong(w: &[u8], at: usize, p: usize, sections: usize, step: usize) -> bool
     requires { ⌜ (at + 48 * p ≤ 8 * length (now w)) × (length (now w) ≤ 4096) × (step ≤ 16) × (sections + 128 * p ≤ 32768) ⌝ }
     ensures { λ r. ⌜ r ≡ tapFault (cuts table16 p (drop at (unpack (now (w .entry))))) (fieldsAt (now (w .entry)) sections step 4 (total ownSections (cuts table16 p (drop at (unpack (now (w .entry))))))) ⌝ }
@@ -89,6 +93,7 @@ fn has_id(w: &[u8], at: usize, n: usize, from: usize, id: u32) -> bool
 {
     let mut j = from;
     while j < n {
+        // STS_ID (table 18)
         if crate::walk::word_bits(w, at + 16 * j, 8) == id {
             return true;
         }
@@ -104,6 +109,7 @@ fn id_twice(w: &[u8], at: usize, n: usize) -> bool
 {
     let mut i: usize = 0;
     while i < n {
+        // STS_ID (table 18)
         let id = crate::walk::word_bits(w, at + 16 * i, 8);
         if has_id(w, at, n, i + 1, id) {
             return true;

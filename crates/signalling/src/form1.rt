@@ -74,9 +74,11 @@ fn counts_differ(sheet: &[u8], p: usize, s: usize, d: usize) -> bool
     requires { ⌜ (length (now sheet) ≡ sheetEnd 12 p s d) × (p ≤ 255) × (s ≤ 255) × (d ≤ 255) ⌝ }
     ensures { λ r. ⌜ r ≡ countFault p s d (sheetLists p s d (unpack (now (sheet .entry)))) ⌝ }
 {
+    // Num_Pipes_1 (table 15)
     if p != crate::walk::word_bits(sheet, 148, 4) as usize {
         return true;
     }
+    // the payload pipes' records (table 16), and before them the tail's (table 16b)
     let own = crate::counts::count(sheet, 168, p);
     if s != own.s + crate::counts::tail_owned(sheet, 152) {
         return true;
@@ -91,6 +93,7 @@ pub fn judge(sheet: &[u8], p: usize, s: usize, d: usize) -> u8
 {
     let sections = 168 + 48 * p + 16 * s;
     let top = top_set(sheet, sections, d);
+    // Sig_Pipe_Ver (table 15)
     let newer = crate::walk::word_bits(sheet, 96, 4) != 0;
     if top {
         return 14;
@@ -104,5 +107,6 @@ pub fn judge(sheet: &[u8], p: usize, s: usize, d: usize) -> u8
     if 750 < 72 + 48 * p + 16 * s + 12 * d {
         return 7;
     }
+    // the places of pipes, streams (table 18) and sections (table 19), each section behind its top four bits
     crate::faults::judge(sheet, 168, p, 168 + 48 * p, s, sections + 4, 16)
 }

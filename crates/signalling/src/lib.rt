@@ -31,23 +31,29 @@ fn survey(word: &[u8]) -> Reading
     requires { ⌜ length (now word) ≡ 96 ⌝ }
     ensures { λ r. ⌜ told r ≡ surveyed (unpack (now (word .entry))) ⌝ }
 {
+    // the six spare bits (01)
     if crate::walk::any_set(word, 762, 768) {
         return Reading::Refused(2);
     }
+    // the parity bits of the CRC-12 over the bits before them (table 14)
     if crate::walk::word_bits(word, 750, 12) != crc::crc12(word, 0, 750) as u32 {
         return Reading::Refused(5);
     }
+    // Sig_Pipe_Ver (table 15)
     if crate::walk::word_bits(word, 0, 4) != 0 {
         return Reading::Refused(6);
     }
+    // Num_Pipes_1 (table 15)
     let p = crate::walk::word_bits(word, 52, 4) as usize;
     // 15 payload pipes alone pass 750 bits, so nothing is read past them
     if 14 < p {
         return Reading::Refused(7);
     }
+    // the payload pipes' records (table 16), and behind them the tail's (table 16b)
     let own = crate::counts::count(word, 56, p);
     let s = own.s + crate::counts::tail_owned(word, 56 + 48 * p);
     let d = own.d + TAIL_SECTIONS;
+    // where the lists end (table 14)
     let end = 72 + 48 * p + 16 * s + 12 * d;
     if 750 < end {
         return Reading::Refused(7);
@@ -55,6 +61,7 @@ fn survey(word: &[u8]) -> Reading
     if crate::walk::any_set(word, end, 750) {
         return Reading::Refused(8);
     }
+    // the places of pipes, streams (table 18) and sections (table 19)
     let n = crate::faults::judge(word, 56, p, 72 + 48 * p, s, end - 12 * d, 12);
     if n != 0 {
         return Reading::Refused(n);
