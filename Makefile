@@ -5,8 +5,7 @@ archive := target/staticlib/libopl.a
 # the same for the machine at hand, to measure and to run under a memory checker
 native := target/native/libopl.a
 headend := target/examples/headend
-# the listing program, where crates.txt has it
-listing := $(if $(shell grep '^listing:' crates.txt),target/bin/listing)
+listing := target/bin/listing
 # what the demonstration is run on, and the frame that it writes; `make demo sheet=FILE` takes another, and so on
 sheet := examples/sheets/story.sheet
 payload := README.md
@@ -53,7 +52,7 @@ demo: need-demo $(headend) $(listing)
 	@mkdir -p target/demo
 	@echo 'the sheet, $(sheet)'
 	@listed=0; \
-	$(if $(listing),sh tools/x86-64.sh run $(listing) <'$(sheet)' || listed=$$?;) \
+	sh tools/x86-64.sh run $(listing) <'$(sheet)' || listed=$$?; \
 	sh tools/x86-64.sh run $(headend) '$(sheet)' '$(payload)' '$(frame)' && exit $$listed
 
 test: need-test

@@ -1,14 +1,14 @@
 /*
  * opl.h: the outer physical layer of satellite digital radio, ETSI EN 302 550-1-1 V1.1.1, for C.
  *
- * Link target/staticlib/libopl.a (`make lib` builds it; x86-64 Linux).
+ * Link with -lopl (`pkg-config --cflags --libs opl`), for x86-64 Linux.
  *
  * Every function returns a refusal number: 0 (OPL_ACCEPTED) where the call was accepted and did what
  * is said of it, else the number of the first rule that its input breaks, in the order given with the
  * function. A refused call touches nothing: all memory that was lent to it is as before the call.
  *
- * What is said here of each function is proved of it, for every input, as long as the caller keeps to
- * these rules, which C cannot check:
+ * What is said here of each function is proved of the code that the library is compiled from, for every
+ * input, as long as the caller keeps to these rules, which C cannot check:
  *
  *   - A buffer is lent as a pointer and a length. The pointer is valid and not null, and that many
  *     elements are there, to be read, or to be read and written where the pointer is not const.
@@ -19,7 +19,7 @@
  *
  * The library keeps no state, allocates nothing and reads and writes no file, so calls on different
  * buffers may run at the same time. opl_encode takes about 50,000 bytes of the caller's stack, each other
- * function 2,000 at most (measured, not proved).
+ * function 2,000 at most (measured, not proved). Of the C library the archive calls memcpy and memset alone.
  *
  * Bits are packed with the first bit in the top bit of the first byte; numbers have their most
  * significant bit first (annex A of the standard).
@@ -40,7 +40,7 @@ enum opl_refusal {
     OPL_LENGTH = 1,        /* a lent length is wrong (a signalling reader's room: below 128) */
     OPL_SPARE = 2,         /* a spare bit, of the six that end a word, is set */
     OPL_PATTERN = 3,       /* the puncturing pattern is above 27 */
-    OPL_BLOCK_PATTERN = 4, /* a block of 762 bits with a pattern other than 0 */
+    OPL_BLOCK_PATTERN = 4, /* a signalling word (block of 762 bits) with a pattern other than 0 */
     OPL_CRC = 5,           /* the CRC is wrong */
     OPL_SIG_PIPE_VER = 6,  /* Sig_Pipe_Ver is not 0 */
     OPL_LISTS = 7,         /* the lists of pipes, streams and sections pass 750 bits */
@@ -66,8 +66,8 @@ enum opl_refusal {
  *
  * Refusals: OPL_LENGTH where n is not 32.
  *
- * Provisional: the standard inverts the preamble in every second frame. Request 2026-01 will have the
- * caller say which of the two is due, and this function will change with it.
+ * Provisional: the standard inverts the preamble in every second frame. A later version (request 2026-01)
+ * will have the caller say which of the two is due, and this function will change with it.
  */
 uint8_t opl_preamble(uint8_t *out, size_t n);
 
@@ -110,6 +110,18 @@ uint8_t opl_preamble(uint8_t *out, size_t n);
  *   byte 21   the pipes (table 16), 6 bytes each
  *             the streams (table 18), 2 bytes each
  *             the sections (table 19), 2 bytes each, the top four bits zero
+ *
+ * The fields of these records, in order, each with its width in bits:
+ *
+ *   table 15    Sig_Pipe_Ver 4, Reconfig_Flag 1, Event_Countdown 11, Operator_ID 8, Resync_Flag 1,
+ *               Reschedule_Flag 1, Frame_Index 22, Max_Inter_Schedule_Period_Length_Frames_Div2_1 2,
+ *               Config_Index 2, Num_Pipes_1 4
+ *   table 16    Punct_Pat_ID 6, Pipe_Width_CUs 10, Num_STS_1 5, Num_Disperser_Sections_1 3,
+ *               Disperser_Inv_Flag 1, Regrouping_Flag 1, Inter_Schedule_Period_Countdown_Slots 10,
+ *               Tap_Diff_Mult_Int_1 4, Tap_Diff_Mult_Fract_1_16 4, Schedule_Index 4
+ *   table 16b   Punct_Pat_ID 6, Codeword_Align_Flag 1, Pipe_Width_CUs 9
+ *   table 18    STS_ID 8, STS_Width_Slots_1 8
+ *   table 19    Num_Taps_Div2_1 4, Tap_Diff 3, Gap_Width 5
  */
 
 /*
@@ -210,7 +222,7 @@ uint8_t opl_payload_read(const uint8_t *word, size_t n, uint8_t *header, size_t 
 #define OPL_SIGNALLING_CODEWORD_BYTES 480
 
 /*
- * Writes the turbo codeword of an infoword (clauses 4.4.2 to 4.4.4). Of the infoword's bits the first N
+ * Writes the turbo codeword of an infoword (clauses 4.4.2 to 4.4.5). Of the infoword's bits the first N
  * are coded, 12,282 of a payload word and 762 of a signalling word; no CRC is looked at.
  *
  *   pattern    the puncturing pattern (Punct_Pat_ID), 0 to 27; only 0 for a signalling word
@@ -260,7 +272,8 @@ uint8_t opl_encode(uint32_t pattern, const uint8_t *infoword, size_t n, uint8_t 
  *   OPL_BLOCK_PATTERN   m is 3,840 and pattern is not 0
  *   OPL_LENGTH          n is not the number of code bits
  *
- * Provisional: request 2026-08 will have sums clipped to -127 to 127 and places one byte wide.
+ * Provisional: a later version (request 2026-08) will have sums clipped to -127 to 127 and places one
+ * byte wide.
  */
 uint8_t opl_place(uint32_t pattern, const int8_t *values, size_t n, int16_t *lane, size_t m);
 
