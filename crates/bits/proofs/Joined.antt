@@ -4,15 +4,16 @@ use Prim.Native.Nat.{ℕ, zero, suc, _+_, _-_, _*_, _/_, _%_, _^_, _≤_, _<_}
 use mathlib.Core.Path.{_≡_, refl, sym, ap, ap₂, _∙_, subst}
 use mathlib.Core.List.{List, [], _∷_, _++_}
 use native.Mathlib.Nat.{zero-div, zero-add, add-zero}
+use native.Mathlib.Numerals.{add-one}
 use native.Mathlib.Decide.{decLt}
 use native.Mathlib.Omega.{arith}
 use lib.ListN.{length, getD, take, drop, length-drop, List·getD-append, List·getD-eq-default}
-use lib.Seq.{getD-append-add, take-suc, getD-drop, getD-take, length-take-le, drop-drop, ext-getD}
+use lib.Seq.{getD-append-add, getD-drop, getD-take, length-take-le, drop-drop, ext-getD}
 use Rattle.ground.specs.Table.{tab}
 use Rattle.ground.proofs.Table.{tab-cong, length-tab, getD-tab}
 use Rattle.bits.specs.Lists.{bits, num, unpack, pack, Below}
 use Rattle.bits.specs.Places.{bitAt, number, packed, fieldAt}
-use Rattle.bits.proofs.Lists.{bits-length, num-snoc, unpack-length, unpack-below, pack-length, unpack-pack, pack-unpack}
+use Rattle.bits.proofs.Lists.{bits-length, num-more, unpack-length, unpack-below, pack-length, unpack-pack, pack-unpack}
 use Rattle.bits.proofs.Places.{number-cong, field-is, packed-ext, packed-cong}
 
 -- bit i of the n low bits of v
@@ -57,8 +58,7 @@ pub number-list : (l : List ℕ) (at n : ℕ) → at + n ≤ length l → number
 unfolding number num
 number-list l at zero h = refl
 number-list l at (suc n) h =
-    let k : n < length (drop at l) = rw length-drop (omega arith) in
-    let e : num (take (suc n) (drop at l)) ≡ num (take n (drop at l)) * 2 + getD l (at + n) 0 = rw (take-suc (drop at l) n 0 k, num-snoc, getD-drop) refl in
+    let e : num (take (suc n) (drop at l)) ≡ num (take n (drop at l)) * 2 + getD l (at + n) 0 = rw add-one at (num-more l at n (omega arith)) in
     ap (λ (x : ℕ). x * 2 + getD l (at + n) 0) (number-list l at n (omega arith)) ∙ sym e
 
 pub number-num : (w : List ℕ) (at n : ℕ) → at + n ≤ 8 * length w → number (bitAt w) at n ≡ num (take n (drop at (unpack w)))

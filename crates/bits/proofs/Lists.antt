@@ -4,10 +4,10 @@ use Prim.Native.Nat.{ℕ, zero, suc, _+_, _-_, _*_, _/_, _%_, _^_, _≤_, _<_}
 use mathlib.Core.Path.{_≡_, refl, sym, ap, ap₂, _∙_, subst}
 use mathlib.Core.List.{List, [], _∷_, _++_}
 use native.Mathlib.Nat.{pow-suc, mul-assoc, mul-comm, add-mul, mul-add-mod-self-right, mul-add-div-right, mod-eq-of-lt, mod-one, zero-mul, lt-of-lt-of-le}
-use native.Mathlib.Numerals.{one-add}
+use native.Mathlib.Numerals.{one-add, add-one}
 use native.Mathlib.Omega.{arith}
 use lib.ListN.{length, getD, take, drop, length-append, length-take, length-drop, take-append-drop}
-use lib.Seq.{take-at, drop-at, length-take-le, take-append-le, drop-append-le}
+use lib.Seq.{take-at, drop-at, take-suc, getD-drop, length-take-le, take-append-le, drop-append-le}
 use lib.Pow.{pow-pos, pow-mono, high, pow-add, mod-pow-add}
 use lib.Arith.{digits-lt}
 use Rattle.bits.specs.Lists.{bits, num, unpack, pack, Below}
@@ -65,6 +65,16 @@ pub num-snoc : (l : List ℕ) (b : ℕ) → num (l ++ (b ∷ [])) ≡ num l * 2 
 unfolding num
 num-snoc l b = num-append l (b ∷ []) ∙ omega arith
 
+-- the number of i bits from a place on: one bit more, and how large it gets
+pub num-more : (b : List ℕ) (at i : ℕ) → at + i < length b → num (take (i + 1) (drop at b)) ≡ num (take i (drop at b)) * 2 + getD b (at + i) 0
+num-more b at i h =
+    let l : i < length (drop at b) = rw length-drop (omega arith) in
+    rw (add-one, take-suc (drop at b) i 0 l, num-snoc, getD-drop)
+
+pub num-part-lt : (k i : ℕ) (b : List ℕ) (at : ℕ) → i ≤ k → Below 2 b → num (take i (drop at b)) < 2 ^ k
+num-part-lt k i b at h m =
+    lt-of-lt-of-le (num-lt (take i (drop at b)) (below-take 2 i (drop at b) (below-drop 2 at b m))) (pow-mono {j = k} (rw length-take (omega arith)))
+
 pub unpack-length : (w : List ℕ) → length (unpack w) ≡ 8 * length w
 unfolding unpack
 unpack-length [] = refl
@@ -108,6 +118,10 @@ unpack-pack (suc n) l h e =
     let b : bits 8 (num (take 8 l)) ≡ take 8 l = ap (λ k. bits k (num (take 8 l))) (sym t) ∙ bits-num (take 8 l) (below-take 2 8 l h) in
     ap₂ (λ (x y : List ℕ). x ++ y) b (unpack-pack n (drop 8 l) (below-drop 2 8 l h) (length-drop 8 l ∙ omega arith))
     ∙ take-append-drop 8 l
+
+-- a packed part and what follows it
+pub unpack-part : (n : ℕ) (x y : List ℕ) {z : List ℕ} → Below 2 x → length x ≡ 8 * n → unpack y ≡ z → unpack (pack n x ++ y) ≡ x ++ z
+unpack-part n x y h e f = unpack-append (pack n x) y ∙ ap₂ (λ (a b : List ℕ). a ++ b) (unpack-pack n x h e) f
 
 -- bytes unpacked and packed again
 pub pack-unpack : (w : List ℕ) → Below 256 w → pack (length w) (unpack w) ≡ w

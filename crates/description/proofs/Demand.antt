@@ -3,24 +3,25 @@
 use Prim.Native.Nat.{ℕ, _≤_, _<_}
 use mathlib.Core.Path.{_≡_, refl, sym, ap, ap₂, _∙_, subst}
 use mathlib.Core.Bool.{Bool, true, false, not}
-use mathlib.Core.List.{List, [], _∷_}
+use mathlib.Core.List.{List, []}
 use mathlib.Core.Logic.{_↔_}
 use native.Mathlib.Decide.{ℕ-discrete}
 use native.Mathlib.Omega.{arith}
 use lib.Dec.{eqb, ltb}
 use lib.ListN.{length}
-use borrow.Author.Tests.{eqb-true, eq-eqb, ne-eqb, ltb-false, le-ltb, not-false}
+use borrow.Author.Tests.{eq-eqb, ne-eqb, ltb-false, le-ltb}
 use Rattle.ground.specs.Outcome.{Told, Is, numberOf}
 use Rattle.ground.proofs.Outcome.{number-is}
 use Rattle.ground.specs.Choice.{either, refuse, firstOf}
-use Rattle.ground.proofs.Choice.{choose-true, choose-false, first-past, first-clear, either-false, neither}
+use Rattle.ground.proofs.Choice.{choose-true, choose-false, first-past, first-clear, no-difference, either-false, skip}
+use Rattle.ground.proofs.Answers.{verdict-number}
 use Rattle.bits.specs.Lists.{Below, unpack, pack}
 use Rattle.bits.proofs.Lists.{unpack-length, unpack-below, unpack-pack, pack-unpack}
 use Rattle.description.specs.Description.{Description, listsOf, describe}
 use Rattle.description.specs.Rules.{Keeps}
 use Rattle.description.specs.Layout.{body, padded, sealed, wordOf, layout}
 use Rattle.description.specs.Sheet.{sheetOf, sheet}
-use Rattle.description.specs.Word.{pIn, sIn, dIn, listsIn, wordFaults, readRefusal, front, surveyed, reading}
+use Rattle.description.specs.Word.{listsIn, wordFaults, readRefusal, front, surveyed, reading}
 use Rattle.description.proofs.Deal.{Counted, Sized, lists-describe, describe-lists, counted, sized}
 use Rattle.description.proofs.Sound.{Sound}
 use Rattle.description.proofs.Keeps.{Clean, sized-keeps, sound-keeps, clean-keeps, keeps-clean}
@@ -94,14 +95,14 @@ pub lengths-right : (w out : List ℕ) → length w ≡ 96 → 128 ≤ length ou
 unfolding readRefusal
 lengths-right w out n r =
     first-clear (refuse 1 (either (not (eqb (length w) 96)) (ltb (length out) 128))) (wordFaults (unpack w))
-    (neither (ap not (eq-eqb (length w) 96 n)) (le-ltb (length out) 128 r))
+    (skip (ap not (eq-eqb (length w) 96 n)) (le-ltb (length out) 128 r))
 
 pub lengths-known : (w out : List ℕ) → readRefusal w out ≡ 0 → (length w ≡ 96) × (128 ≤ length out) × (firstOf (wordFaults (unpack w)) ≡ 0)
 unfolding readRefusal
 lengths-known w out h =
     let a = first-past (refuse 1 (either (not (eqb (length w) 96)) (ltb (length out) 128))) (wordFaults (unpack w)) (omega arith) h in
     let e = either-false (not (eqb (length w) 96)) (ltb (length out) 128) (a .0) in
-    (eqb-true (length w) 96 (not-false (eqb (length w) 96) (e .0)), ltb-false (length out) 128 (e .1), a .1)
+    (no-difference (length w) 96 (e .0), ltb-false (length out) 128 (e .1), a .1)
 
 -- ---- demand 3
 module _ (w out : List ℕ) (bytes : Below 256 w) (n : length w ≡ 96) (room : 128 ≤ length out) where
@@ -150,9 +151,7 @@ module _ (w out : List ℕ) where
   accepted-outcome z =
       let e : reading w out ≡ record { answer = surveyed (unpack w); memory = front (sheetOf (listsIn (unpack w))) out } =
       choose-true _ _ (eq-eqb (readRefusal w out) 0 z) in
-      let f : surveyed (unpack w) ≡ record { number = 0; values = pIn (unpack w) ∷ sIn (unpack w) ∷ dIn (unpack w) ∷ [] } =
-      choose-true _ _ (eq-eqb (firstOf (wordFaults (unpack w))) 0 (lengths-known w out z .2)) in
-      (ap (λ o. o .answer .number) e ∙ ap (λ t. t .number) f, ap (λ o. o .memory) e)
+      (ap (λ o. o .answer .number) e ∙ verdict-number (wordFaults (unpack w)) _ ∙ lengths-known w out z .2, ap (λ o. o .memory) e)
 
   refused-outcome : (readRefusal w out ≡ 0 → ⊥) → (reading w out .answer .number ≡ readRefusal w out) × (reading w out .memory ≡ out)
   unfolding reading

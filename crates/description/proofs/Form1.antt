@@ -9,11 +9,11 @@ use native.Mathlib.Omega.{arith}
 use lib.Dec.{eqb}
 use lib.ListN.{length, getD, drop, replicate, length-append}
 use lib.Seq.{drop-at, drop-drop}
-use borrow.Author.Tests.{eqb-true, eq-eqb, le-ltb, not-false}
+use borrow.Author.Tests.{eq-eqb, le-ltb}
 use Rattle.ground.specs.Choice.{any, firstOf}
-use Rattle.ground.proofs.Choice.{either-false, neither, clear-all}
-use Rattle.bits.specs.Lists.{Below, unpack, pack}
-use Rattle.bits.proofs.Lists.{unpack-length, unpack-append, unpack-pack, pack-length}
+use Rattle.ground.proofs.Choice.{no-difference, either-false, skip, clear-all}
+use Rattle.bits.specs.Lists.{unpack}
+use Rattle.bits.proofs.Lists.{unpack-length, unpack-append, unpack-pack, unpack-part, pack-length}
 use Rattle.description.specs.Rows.{Each, width, Row, join, cut, joins, cuts}
 use Rattle.description.specs.Fields.{table15, table16, table16b, table18, table19, stsId, numTapsDiv2}
 use Rattle.description.specs.Description.{Lists}
@@ -45,7 +45,7 @@ module _ (t : List ℕ) where
   in-bare ([] ∷ rs) h e = absurd (h .0)
   in-bare ((x ∷ r) ∷ rs) h e =
       let a = either-false (not (eqb x 0)) (anySet (map (λ r. getD r 0 0) rs)) e in
-      ap₂ (λ (y : ℕ) (l : List (List ℕ)). (y ∷ r) ∷ l) (sym (eqb-true x 0 (not-false (eqb x 0) (a .0)))) (in-bare rs (h .1) (a .1))
+      ap₂ (λ (y : ℕ) (l : List (List ℕ)). (y ∷ r) ∷ l) (sym (no-difference x 0 (a .0))) (in-bare rs (h .1) (a .1))
 
 bare-in : (rs : List (List ℕ)) → bare (inSheet rs) ≡ rs
 bare-in [] = refl
@@ -55,7 +55,7 @@ pub bare-length : (rs : List (List ℕ)) → length (bare rs) ≡ length rs
 bare-length [] = refl
 bare-length (r ∷ rs) = ap suc (bare-length rs)
 
-in-length : (rs : List (List ℕ)) → length (inSheet rs) ≡ length rs
+pub in-length : (rs : List (List ℕ)) → length (inSheet rs) ≡ length rs
 in-length [] = refl
 in-length (r ∷ rs) = ap suc (in-length rs)
 
@@ -78,10 +78,6 @@ from2 l = join table16b (l .tail) ++ from3 l
 
 abbrev pub from1 : Lists → List ℕ
 from1 l = join table15 (l .multiplex) ++ from2 l
-
--- a part and what follows it
-unpack-part : (n : ℕ) (x y : List ℕ) {z : List ℕ} → Below 2 x → length x ≡ 8 * n → unpack y ≡ z → unpack (pack n x ++ y) ≡ x ++ z
-unpack-part n x y h e f = unpack-append (pack n x) y ∙ ap₂ (λ (a b : List ℕ). a ++ b) (unpack-pack n x h e) f
 
 pub unpack-records : (l : Lists) → unpack (records l) ≡ from1 l
 unfolding records width
@@ -160,12 +156,12 @@ module _ (l : Lists) where
   pub header-sheet : headerFault (sheetOf l) ≡ false
   unfolding headerFault sheetOf header
   header-sheet =
-      neither (le-ltb (length (sheetOf l)) 21 (omega (arith, sheet-length l)))
-      (neither refl
-      (neither refl
-      (neither (two-right (streamsFrom 12 p))
-      (neither (two-right (sectionsFrom 12 p s))
-      (neither (two-right (sheetEnd 12 p s d)) (ap not (eq-eqb (length (sheetOf l)) (sheetEnd 12 p s d) (sheet-length l))))))))
+      skip (le-ltb (length (sheetOf l)) 21 (omega (arith, sheet-length l)))
+      (skip refl
+      (skip refl
+      (skip (two-right (streamsFrom 12 p))
+      (skip (two-right (sectionsFrom 12 p s))
+      (skip (two-right (sheetEnd 12 p s d)) (ap not (eq-eqb (length (sheetOf l)) (sheetEnd 12 p s d) (sheet-length l))))))))
 
   module _ (sound : Sound l) where
     sections-sheet : sheetSections p s d b ≡ inSheet (l .sections)
@@ -194,7 +190,7 @@ module _ (l : Lists) where
         let version = ap (λ (x : Lists). versionFault (x .multiplex)) lists-sheet ∙ k .version in
         let count =
         ap (countFault p s d) lists-sheet
-        ∙ neither (ap not (eq-eqb p _ (c .pipes))) (neither (ap not (eq-eqb s _ (c .streams))) (ap not (eq-eqb d _ (c .sections)))) in
+        ∙ skip (ap not (eq-eqb p _ (c .pipes))) (skip (ap not (eq-eqb s _ (c .streams))) (ap not (eq-eqb d _ (c .sections)))) in
         let widths = ap (λ (x : Lists). widthFault (x .pipes)) lists-sheet ∙ k .widths in
         let tapped = ap (λ (x : Lists). tapFault (x .pipes) (map numTapsDiv2 (x .sections))) lists-sheet ∙ k .tapped in
         let unique = ap (λ (x : Lists). idFault (map stsId (x .streams))) lists-sheet ∙ k .unique in

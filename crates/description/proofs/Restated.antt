@@ -8,9 +8,9 @@ use native.Mathlib.Omega.{arith}
 use lib.Dec.{eqb, ltb}
 use lib.ListN.{length, getD, take, drop, length-drop, take-append-drop}
 use lib.Seq.{drop-drop, take-all, getD-take, length-take-le}
-use borrow.Author.Tests.{eqb-true, ltb-false, not-false}
+use borrow.Author.Tests.{ltb-false}
 use Rattle.ground.specs.Choice.{firstOf}
-use Rattle.ground.proofs.Choice.{either-false, all-clear}
+use Rattle.ground.proofs.Choice.{no-difference, either-false, all-clear}
 use Rattle.ground.specs.Table.{tab}
 use Rattle.ground.proofs.Table.{tab-ext}
 use Rattle.bits.specs.Lists.{Below, unpack, pack}
@@ -27,10 +27,6 @@ use Rattle.description.proofs.Deal.{Counted}
 use Rattle.description.proofs.Sound.{Sound}
 use Rattle.description.proofs.Keeps.{Clean}
 use Rattle.description.proofs.Form1.{rows-bare, in-bare, bare-length, from1, from2, from3, from4, from5, unpack-records}
-
--- a test of two numbers found them equal
-is : (x y : ℕ) → not (eqb x y) ≡ false → x ≡ y
-is x y e = eqb-true x y (not-false (eqb x y) e)
 
 -- ---- a right header
 pub record RightHeader (sh : List ℕ) : Type 0 where
@@ -53,12 +49,12 @@ right-header sh e =
     let a6 = either-false (not (eqb (twoAt sh 10) (sheetEnd 12 (pStated sh) (sStated sh) (dStated sh)))) _ (a5 .1) in
     record {
       long = ltb-false (length sh) 21 (a1 .0);
-      fourth = is _ _ (a2 .0);
-      pipes = is _ _ (a3 .0);
-      streams = is _ _ (a4 .0);
-      sections = is _ _ (a5 .0);
-      end = is _ _ (a6 .0);
-      whole = is _ _ (a6 .1);
+      fourth = no-difference _ _ (a2 .0);
+      pipes = no-difference _ _ (a3 .0);
+      streams = no-difference _ _ (a4 .0);
+      sections = no-difference _ _ (a5 .0);
+      end = no-difference _ _ (a6 .0);
+      whole = no-difference _ _ (a6 .1);
     }
 
 two-parts : (x y n : ℕ) → y < 256 → x * 256 + y ≡ n → (x ≡ n / 256) × (y ≡ n % 256)
@@ -157,9 +153,9 @@ module _ (sh : List ℕ) where
         let a1 = either-false (not (eqb p (numPipes1 (l .multiplex)))) _ e in
         let a2 = either-false (not (eqb s (streamCount (l .pipes) (l .tail)))) _ (a1 .1) in
         record {
-          pipes = pipes-long ∙ is _ _ (a1 .0);
-          streams = streams-long ∙ is _ _ (a2 .0);
-          sections = sections-long ∙ is _ _ (a2 .1);
+          pipes = pipes-long ∙ no-difference _ _ (a1 .0);
+          streams = streams-long ∙ no-difference _ _ (a2 .0);
+          sections = sections-long ∙ no-difference _ _ (a2 .1);
         }
 
     pub clean-stated : Clean (listsStated sh)

@@ -5,12 +5,11 @@ use mathlib.Core.Path.{_≡_, refl, sym, ap, ap₂, _∙_, subst}
 use mathlib.Core.Bool.{Bool, true, false, not}
 use mathlib.Core.List.{List, [], _∷_, _++_, append-assoc, map}
 use native.Mathlib.Omega.{arith}
-use lib.Dec.{eqb}
 use lib.ListN.{length, getD, take, drop, replicate, length-append, length-take, length-drop, length-replicate, take-append-drop}
 use lib.Seq.{take-at, drop-at, drop-drop, length-take-le, take-take}
-use borrow.Author.Tests.{eqb-true, eq-eqb, not-false}
+use borrow.Author.Tests.{eq-eqb}
 use Rattle.ground.specs.Choice.{firstOf}
-use Rattle.ground.proofs.Choice.{all-clear, clear-all}
+use Rattle.ground.proofs.Choice.{no-difference, all-clear, clear-all}
 use Rattle.bits.specs.Lists.{bits, num, Below}
 use Rattle.bits.proofs.Below.{below-take, below-drop, below-append}
 use Rattle.bits.proofs.Lists.{bits-num, num-bits, bits-length, bits-below}
@@ -90,7 +89,7 @@ module _ (b : List ℕ) (h : Below 2 b) (l : length b ≡ 768) (p : Passes b) wh
   crc≡ =
       let c : List ℕ = take 12 (drop 750 b) in
       let k : length c ≡ 12 = length-take-le 12 (drop 750 b) (rw length-drop (omega arith)) in
-      let e : num c ≡ crcOf 12 0x80F (take 750 b) = eqb-true (num c) (crcOf 12 0x80F (take 750 b)) (not-false (eqb (num c) (crcOf 12 0x80F (take 750 b))) (p .crc)) in
+      let e : num c ≡ crcOf 12 0x80F (take 750 b) = no-difference (num c) (crcOf 12 0x80F (take 750 b)) (p .crc) in
       ap (bits 12) (sym e) ∙ ap (λ (m : ℕ). bits m (num c)) (sym k) ∙ bits-num c (below-take 2 12 (drop 750 b) (below-drop 2 750 b h))
 
   spare≡ : drop 762 b ≡ replicate 6 0

@@ -3,16 +3,16 @@
 use Prim.Native.Nat.{ℕ, zero, suc, _+_, _*_, _/_, _%_, _≤_, _<_}
 use mathlib.Core.Path.{_≡_, refl, sym, ap, ap₂, _∙_, subst}
 use mathlib.Core.Bool.{Bool, true, false, not}
-use mathlib.Core.List.{List, [], _∷_, _++_, map}
+use mathlib.Core.List.{List, [], _∷_, map, map-append}
 use native.Mathlib.Nat.{div-add-mod', mul-mod-left, not-suc-le-zero}
 use native.Mathlib.Decide.{decLt}
 use native.Mathlib.Omega.{arith}
 use lib.Dec.{eqb, ltb}
 use lib.ListN.{length, getD, take, drop, replicate, length-map}
 use lib.Seq.{take-at, drop-at}
-use borrow.Author.Tests.{eqb-true, eqb-false, ltb-true, ltb-false, eq-eqb, ne-eqb, lt-ltb, le-ltb, not-true, not-false}
+use borrow.Author.Tests.{eqb-false, ltb-true, ltb-false, eq-eqb, ne-eqb, lt-ltb, le-ltb, not-true}
 use Rattle.ground.specs.Choice.{both, either, any}
-use Rattle.ground.proofs.Choice.{either-false, neither, both-false, both-first, both-second}
+use Rattle.ground.proofs.Choice.{no-difference, either-false, skip, both-false, both-first, both-second}
 use Rattle.patterns.specs.Rates.{unitsOf}
 use Rattle.description.specs.Rows.{Each, total}
 use Rattle.description.specs.Fields.{sigPipeVer, punctPat, pipeWidth, numTapsDiv2}
@@ -28,7 +28,7 @@ not-is e = ap not e
 -- ---- 6 and 7
 pub version-clear : (m : List ℕ) → versionFault m ≡ false → sigPipeVer m ≡ 0
 unfolding versionFault
-version-clear m e = eqb-true (sigPipeVer m) 0 (not-false (eqb (sigPipeVer m) 0) e)
+version-clear m e = no-difference (sigPipeVer m) 0 e
 
 pub clear-version : (m : List ℕ) → sigPipeVer m ≡ 0 → versionFault m ≡ false
 unfolding versionFault
@@ -48,7 +48,7 @@ unfolding anySet any
 none-set [] e = refl
 none-set (b ∷ l) e =
     let h = either-false (not (eqb b 0)) (anySet l) e in
-    ap₂ (λ (x : ℕ) (y : List ℕ). x ∷ y) (eqb-true b 0 (not-false (eqb b 0) (h .0))) (none-set l (h .1))
+    ap₂ (λ (x : ℕ) (y : List ℕ). x ∷ y) (no-difference b 0 (h .0)) (none-set l (h .1))
 
 pub set-none : (n : ℕ) → anySet (replicate n 0) ≡ false
 unfolding anySet any
@@ -64,7 +64,7 @@ unfolding widthWrong
 width-right f e u k =
     let m : ℕ = unitsOf (punctPat f) in
     let z : pipeWidth f % m ≡ 0 =
-    eqb-true (pipeWidth f % m) 0 (not-false (eqb (pipeWidth f % m) 0) (both-false (ltb (punctPat f) 28) (not (eqb (pipeWidth f % m) 0)) e (lt-ltb (punctPat f) 28 k))) in
+    no-difference (pipeWidth f % m) 0 (both-false (ltb (punctPat f) 28) (not (eqb (pipeWidth f % m) 0)) e (lt-ltb (punctPat f) 28 k)) in
     (pipeWidth f / m, sym (div-add-mod' (pipeWidth f) m) ∙ ap (λ (r : ℕ). pipeWidth f / m * m + r) z ∙ omega arith)
 
 right-width : (f : List ℕ) → Whole f → widthWrong f ≡ false
@@ -87,7 +87,7 @@ widths-clear (f ∷ fs) e = let h = either-false (widthWrong f) (widthFault fs) 
 pub clear-widths : (fs : List (List ℕ)) → Each Whole fs → widthFault fs ≡ false
 unfolding widthFault any
 clear-widths [] h = refl
-clear-widths (f ∷ fs) h = neither (right-width f (h .0)) (clear-widths fs (h .1))
+clear-widths (f ∷ fs) h = skip (right-width f (h .0)) (clear-widths fs (h .1))
 
 -- ---- 10
 abbrev pub Tapped : Pipe → Type 0
@@ -99,8 +99,7 @@ taps-right p e u =
     let ts : List ℕ = map numTapsDiv2 (p .sections) in
     let n : not (eqb (pipeWidth (p .fields)) 0) ≡ true = ap not (ne-eqb (pipeWidth (p .fields)) 0 (λ z. omega arith)) in
     sym (total-map numTapsDiv2 (λ k. (k + 1) * 2) (p .sections))
-    ∙ eqb-true (total (λ k. (k + 1) * 2) ts) 32
-    (not-false (eqb (total (λ k. (k + 1) * 2) ts) 32) (both-false (not (eqb (pipeWidth (p .fields)) 0)) (not (eqb (total (λ k. (k + 1) * 2) ts) 32)) e n))
+    ∙ no-difference (total (λ k. (k + 1) * 2) ts) 32 (both-false (not (eqb (pipeWidth (p .fields)) 0)) (not (eqb (total (λ k. (k + 1) * 2) ts) 32)) e n)
 
 right-taps : (p : Pipe) → Tapped p → tapsWrong (p .fields) (map numTapsDiv2 (p .sections)) ≡ false
 unfolding tapsWrong
@@ -110,10 +109,6 @@ right-taps p h =
           (not-is (eq-eqb (total (λ k. (k + 1) * 2) (map numTapsDiv2 (p .sections))) 32 (total-map numTapsDiv2 (λ k. (k + 1) * 2) (p .sections) ∙ h u)))
       | no u ↦ both-first (not (eqb (total (λ k. (k + 1) * 2) (map numTapsDiv2 (p .sections))) 32)) (not-is (eq-eqb (pipeWidth (p .fields)) 0 (omega arith)))
     ]
-
-map-append : (f : List ℕ → ℕ) (a b : List (List ℕ)) → map f (a ++ b) ≡ map f a ++ map f b
-map-append f [] b = refl
-map-append f (x ∷ a) b = ap (λ (l : List ℕ). f x ∷ l) (map-append f a b)
 
 -- what is dealt to the first pipe, and what is left
 taps-step : (p : Pipe) (ps : List Pipe) → Owns p
@@ -136,7 +131,7 @@ taps-clear (p ∷ ps) o e =
 pub clear-taps : (ps : List Pipe) → Each Owns ps → Each Tapped ps → tapFault (recordsOf ps) (map numTapsDiv2 (sectionsOf ps)) ≡ false
 unfolding tapFault recordsOf
 clear-taps [] o h = refl
-clear-taps (p ∷ ps) o h = taps-step p ps (o .0) ∙ neither (right-taps p (h .0)) (clear-taps ps (o .1) (h .1))
+clear-taps (p ∷ ps) o h = taps-step p ps (o .0) ∙ skip (right-taps p (h .0)) (clear-taps ps (o .1) (h .1))
 
 -- ---- 11
 no-member : (x : ℕ) (l : List ℕ) → member x l ≡ false → (j : ℕ) → j < length l → x ≡ getD l j 0 → ⊥
@@ -148,7 +143,7 @@ no-member x (y ∷ l) e (suc j) h q = no-member x l (either-false (eqb x y) (mem
 member-no : (x : ℕ) (l : List ℕ) → ((j : ℕ) → j < length l → x ≡ getD l j 0 → ⊥) → member x l ≡ false
 unfolding member any
 member-no x [] h = refl
-member-no x (y ∷ l) h = neither (ne-eqb x y (h 0 (omega arith))) (member-no x l (λ j p. h (suc j) (omega arith)))
+member-no x (y ∷ l) h = skip (ne-eqb x y (h 0 (omega arith))) (member-no x l (λ j p. h (suc j) (omega arith)))
 
 pub ids-clear : (l : List ℕ) → idFault l ≡ false → Distinct l
 unfolding idFault
@@ -162,5 +157,5 @@ pub clear-ids : (l : List ℕ) → Distinct l → idFault l ≡ false
 unfolding idFault
 clear-ids [] h = refl
 clear-ids (x ∷ l) h =
-    neither (member-no x l (λ j p q. h 0 (suc j) (omega arith) (omega arith) q))
+    skip (member-no x l (λ j p q. h 0 (suc j) (omega arith) (omega arith) q))
     (clear-ids l (λ i j p k q. h (suc i) (suc j) (omega arith) (omega arith) q))

@@ -1,15 +1,16 @@
 -- Laws of choice: which side was chosen, and what an answer of 0 says of the tests before it.
 -- Assumes nothing.
 use mathlib.Core.Path.{_≡_, refl, sym, ap, _∙_}
-use mathlib.Core.Bool.{Bool, true, false}
+use mathlib.Core.Bool.{Bool, true, false, not}
 use mathlib.Core.List.{List, [], _∷_}
 use Prim.Native.Nat.{ℕ, zero, suc, _+_, _≤_, _<_}
 use native.Mathlib.Numerals.{add-one}
 use native.Mathlib.Omega.{arith}
-use lib.Dec.{T, ltb, ltb→lt}
+use lib.Dec.{T, eqb, leb, ltb, leb→le, ltb→lt}
 use lib.ListN.{length, getD, take, drop, drop-of-length-le}
 use lib.Seq.{drop-cons}
-use Rattle.ground.specs.Choice.{choose, both, either, any, Fault, firstOf}
+use borrow.Author.Tests.{eqb-true, not-false}
+use Rattle.ground.specs.Choice.{choose, both, either, any, Fault, refuse, firstOf}
 
 pub choose-true : {A : Type 0} {b : Bool} (x y : A) → b ≡ true → choose b x y ≡ x
 choose-true x y e = ap (λ (t : Bool). choose t x y) e
@@ -26,10 +27,19 @@ pub choose-ap : {A B : Type 0} (f : A → B) (b : Bool) (x y : A) → f (choose 
 choose-ap f true x y = refl
 choose-ap f false x y = refl
 
+-- what holds of both sides holds of the choice: at most m
+pub choose-most : {A : Type 0} (f : A → ℕ) (m : ℕ) (b : Bool) (x y : A) → f x ≤ m → f y ≤ m → f (choose b x y) ≤ m
+choose-most f m true x y h k = h
+choose-most f m false x y h k = k
+
 -- where a choice between a refusal and the rest is 0, the test failed and the rest is 0
 pub past : (b : Bool) (n rest : ℕ) → 0 < n → choose b n rest ≡ 0 → (b ≡ false) × (rest ≡ 0)
 past true n rest h e = absurd (omega arith)
 past false n rest h e = (refl, e)
+
+-- a test for a difference found none
+pub no-difference : (x y : ℕ) → not (eqb x y) ≡ false → x ≡ y
+no-difference x y e = eqb-true x y (not-false (eqb x y) e)
 
 pub both-left : (a b : Bool) → T (both a b) → T a
 both-left true b t = tt
@@ -44,8 +54,12 @@ pub either-false : (a b : Bool) → either a b ≡ false → (a ≡ false) × (b
 either-false true b e = let z : _≡_ {A = ℕ} 0 1 = cc in absurd (omega arith)
 either-false false b e = (refl, e)
 
-pub neither : {a b : Bool} → a ≡ false → b ≡ false → either a b ≡ false
-neither {a} {b} e f = ap (λ (t : Bool). either t b) e ∙ f
+-- a chain of tests: one that fails is passed, one that holds answers
+pub skip : {a b r : Bool} → a ≡ false → b ≡ r → either a b ≡ r
+skip {a} {b} {r} e f = ap (λ (t : Bool). either t b) e ∙ f
+
+pub hit : {a : Bool} (b : Bool) → a ≡ true → either a b ≡ true
+hit b e = ap (λ (t : Bool). either t b) e
 
 -- the second test fails wherever the first holds
 pub both-false : (a b : Bool) → both a b ≡ false → a ≡ true → b ≡ false
@@ -96,6 +110,43 @@ first-drop zero l c = refl
 first-drop (suc k) [] c = refl
 first-drop (suc k) (f ∷ l) c = first-clear f l (c .0) ∙ first-drop k l (c .1)
 
+-- fault k of a list, and behind its end one that is not found
+abbrev pub faultAt : ℕ → List Fault → Fault
+faultAt k l = getD l k (refuse 0 false)
+
+-- fault k, where those before it are passed: it is passed, or it answers
+pub next-clear : (k : ℕ) (l : List Fault) → faultAt k l .found ≡ false → firstOf (drop k l) ≡ firstOf (drop (suc k) l)
+next-clear zero [] e = refl
+next-clear zero (f ∷ l) e = first-clear f l e
+next-clear (suc k) [] e = refl
+next-clear (suc k) (f ∷ l) e = next-clear k l e
+
+pub next-found : (k : ℕ) (l : List Fault) → faultAt k l .found ≡ true → firstOf (drop k l) ≡ faultAt k l .number
+next-found k [] e = let z : _≡_ {A = ℕ} 0 1 = cc in absurd (omega arith)
+next-found zero (f ∷ l) e = first-found f l e
+next-found (suc k) (f ∷ l) e = next-found k l e
+
+-- the first k faults are not found, and the next is: the answer is its number
+pub first-at : (k : ℕ) (l : List Fault) → AllClear (take k l) → faultAt k l .found ≡ true → firstOf l ≡ faultAt k l .number
+first-at k l c e = first-drop k l c ∙ next-found k l e
+
+-- and it is a refusal's
+pub found-above : (k : ℕ) (l : List Fault) → T (numbered l) → faultAt k l .found ≡ true → 0 < faultAt k l .number
+found-above k [] t e = let z : _≡_ {A = ℕ} 0 1 = cc in absurd (omega arith)
+found-above zero (f ∷ l) t e = ltb→lt 0 (f .number) (both-left (ltb 0 (f .number)) (numbered l) t)
+found-above (suc k) (f ∷ l) t e = found-above k l (both-right (ltb 0 (f .number)) (numbered l) t) e
+
+-- every number of a list is at most m, and so is the answer
+abbrev pub within : ℕ → List Fault → Bool
+within m [] = true
+within m (f ∷ l) = both (leb (f .number) m) (within m l)
+
+pub first-most : (m : ℕ) (l : List Fault) → T (within m l) → firstOf l ≤ m
+first-most m [] t = omega arith
+first-most m (f ∷ l) t =
+    choose-most (λ (n : ℕ). n) m (f .found) (f .number) (firstOf l)
+    (leb→le (f .number) m (both-left (leb (f .number) m) (within m l) t)) (first-most m l (both-right (leb (f .number) m) (within m l) t))
+
 -- ---- a search: what is asked of the whole is asked of what is left from i on
 module _ {A : Type 0} (t : A → Bool) (l : List A) (z : A) (whole : Bool) (i : ℕ) (left : whole ≡ any t (drop i l)) where
   step : i < length l → whole ≡ either (t (getD l i z)) (any t (drop (i + 1) l))
@@ -111,10 +162,3 @@ module _ {A : Type 0} (t : A → Bool) (l : List A) (z : A) (whole : Bool) (i : 
   pub any-done : length l ≤ i → whole ≡ false
   unfolding any
   any-done h = left ∙ ap (any t) (drop-of-length-le l h)
-
--- a chain of tests: one that fails is passed, one that holds answers
-pub skip : {a b r : Bool} → a ≡ false → b ≡ r → either a b ≡ r
-skip {a} {b} {r} e f = ap (λ (t : Bool). either t b) e ∙ f
-
-pub hit : {a : Bool} (b : Bool) → a ≡ true → either a b ≡ true
-hit b e = ap (λ (t : Bool). either t b) e

@@ -6,3 +6,4 @@ pub mod Copy
 pub mod Repeat
 pub mod Fill
 pub mod Faults
+pub mod Answers

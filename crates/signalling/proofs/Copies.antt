@@ -18,6 +18,7 @@ use Rattle.description.specs.Rows.{width, join, cut, joins, cuts}
 use Rattle.description.specs.Fields.{table19}
 use Rattle.description.specs.Sheet.{inSheet}
 use Rattle.description.proofs.Rows.{join-cut, joins-at, cuts-at, cuts-length}
+use Rattle.description.proofs.Form1.{in-length}
 
 -- ---- a byte more of a copy: byte k of the n at a bit place
 pub byte-more : (o w : List ℕ) (at to n k r : ℕ) → to + k < length o → k < n → at + 8 * n ≤ 8 * length w → r ≡ fieldAt w (at + 8 * k) 8
@@ -38,10 +39,6 @@ sheetBits d b = joins (4 ∷ table19) (inSheet (cuts table19 d b))
 
 abbrev pub sheetSections : ℕ → List ℕ → List ℕ
 sheetSections d b = pack (2 * d) (sheetBits d b)
-
-inSheet-length : (rs : List (List ℕ)) → length (inSheet rs) ≡ length rs
-inSheet-length [] = refl
-inSheet-length (r ∷ rs) = ap suc (inSheet-length rs)
 
 inSheet-at : (rs : List (List ℕ)) (k : ℕ) → k < length rs → getD (inSheet rs) k [] ≡ 0 ∷ getD rs k []
 inSheet-at [] k h = absurd (omega arith)
@@ -103,7 +100,7 @@ module _ (d k : ℕ) (b : List ℕ) (h : Below 2 b) (f : 12 * d ≤ length b) (l
   from-row : drop (16 * k) (joins (4 ∷ table19) rows) ≡ (bits 4 0 ++ twelve) ++ rest
   unfolding rows rest width
   from-row =
-      let n : k < length rows = rw (inSheet-length, cuts-length) l in
+      let n : k < length rows = rw (in-length, cuts-length) l in
       let m : 16 * k ≡ k * 16 = omega arith in
       ap (λ (i : ℕ). drop i (joins (4 ∷ table19) rows)) m ∙ joins-at (4 ∷ table19) k rows n ∙ ap (λ (r : List ℕ). r ++ rest) row-is
 

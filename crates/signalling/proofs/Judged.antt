@@ -4,15 +4,15 @@ use Prim.Native.Nat.{ℕ, _+_, _*_, _≤_, _<_}
 use mathlib.Core.Path.{_≡_, refl, sym, ap, ap₂, _∙_, subst}
 use mathlib.Core.Bool.{Bool, true, false, not}
 use mathlib.Core.List.{List, [], _∷_, map}
-use native.Mathlib.Decide.{ℕ-discrete}
 use native.Mathlib.Omega.{arith}
 use lib.Dec.{eqb}
 use lib.ListN.{length, getD, take, drop}
-use borrow.Author.Tests.{eq-eqb, ne-eqb, eqb-true, not-false}
-use Rattle.ground.specs.Outcome.{Outcome, Told, Is}
+use borrow.Author.Tests.{eq-eqb, ne-eqb}
+use Rattle.ground.specs.Outcome.{Outcome, Is}
 use Rattle.ground.specs.Choice.{refuse, firstOf}
 use Rattle.ground.proofs.Outcome.{gave}
-use Rattle.ground.proofs.Choice.{choose-true, choose-false, either-false, AllClear, all-clear, first-drop, first-found}
+use Rattle.ground.proofs.Choice.{choose-true, choose-false, no-difference, either-false, AllClear, all-clear, first-drop, faultAt, first-at, first-found}
+use Rattle.ground.proofs.Answers.{refusedBy, verdict-accepted, verdict-refused, refused-by, refused-call}
 use Rattle.bits.specs.Lists.{unpack}
 use Rattle.bits.specs.Places.{fieldAt, fieldsAt}
 use Rattle.description.specs.Rows.{total, cuts}
@@ -20,17 +20,17 @@ use Rattle.description.specs.Fields.{table16, stsId, numTapsDiv2, numPipes1}
 use Rattle.description.specs.Description.{Lists, ownSections, streamCount, sectionCount}
 use Rattle.description.specs.Rules.{size}
 use Rattle.description.specs.Sheet.{sheetEnd}
-use Rattle.description.specs.Tests.{versionFault, listsFault, anySet, widthFault, tapFault, idFault}
-use Rattle.description.specs.Form1.{pStated, sStated, dStated, headerFault, sheetLists, listsStated, topFault, countFault, sheetFaults, checked, writeRefusal, writing}
 use Rattle.description.specs.Layout.{wordOf}
+use Rattle.description.specs.Tests.{versionFault, anySet, widthFault, tapFault, idFault}
+use Rattle.description.specs.Form1.{pStated, sStated, dStated, headerFault, sheetLists, listsStated, topFault, countFault, sheetFaults, checked, writeRefusal, writing}
 use Rattle.description.proofs.Tests.{lists-clear}
 use Rattle.description.proofs.Restated.{right-header}
 use Rattle.description.proofs.DemandWrite.{length-right}
 use Rattle.signalling.specs.Filled.{Stated}
 use Rattle.signalling.proofs.Searches.{judged}
 use Rattle.signalling.proofs.Stated.{tops-are, version-said, judge-said, pipes-are}
-use Rattle.signalling.proofs.Surveys.{refusedBy, lists-found}
-use Rattle.signalling.proofs.Readings.{counted}
+use Rattle.signalling.proofs.Surveys.{lists-found}
+use Rattle.signalling.proofs.Readings.{counted, Found, counted-found}
 
 -- ---- the tests after the header's, in a sheet whose header is right
 module _ (sh : List ℕ) (right : headerFault sh ≡ false) (p s d : ℕ) (ep : p ≡ pStated sh) (es : s ≡ sStated sh) (ed : d ≡ dStated sh) where
@@ -67,7 +67,7 @@ module _ (sh : List ℕ) (right : headerFault sh ≡ false) (p s d : ℕ) (ep : 
       let l : Lists = sheetLists p s d (unpack sh) in
       let a = either-false (not (eqb p (numPipes1 (l .multiplex)))) _ e in
       let b = either-false (not (eqb s (streamCount (l .pipes) (l .tail)))) _ (a .1) in
-      eqb-true d (total ownSections (l .pipes)) (not-false (eqb d (total ownSections (l .pipes))) (b .1)) ∙ ap (total ownSections) (sym (pipes-are sh p s d long-enough))
+      no-difference d (total ownSections (l .pipes)) (b .1) ∙ ap (total ownSections) (sym (pipes-are sh p s d long-enough))
 
   pub judge≡ : d ≡ total ownSections (cuts table16 p (drop 168 (unpack sh)))
       → judged (widthFault (cuts table16 p (drop 168 (unpack sh)))) (tapFault (cuts table16 p (drop 168 (unpack sh))) (fieldsAt sh (168 + 48 * p + 16 * s + 4) 16 4 (total ownSections (cuts table16 p (drop 168 (unpack sh)))))) (idFault (fieldsAt sh (168 + 48 * p) 16 8 s))
@@ -79,37 +79,18 @@ module _ (sh : List ℕ) (right : headerFault sh ≡ false) (p s d : ℕ) (ep : 
 
 -- ---- what they say together
 module _ (sh : List ℕ) where
-  after : (k : ℕ) → AllClear (take k (drop 1 (sheetFaults sh))) → (n : ℕ) → n ≡ firstOf (drop k (drop 1 (sheetFaults sh))) → n ≡ firstOf (drop 1 (sheetFaults sh))
-  after k c n e = e ∙ sym (first-drop k (drop 1 (sheetFaults sh)) c)
+  -- the first k tests behind the header's, which are 14 6 13 7 and those of `judge`, find nothing: the next one answers, or those behind it do
+  pub said-at : (k : ℕ) → AllClear (take k (drop 1 (sheetFaults sh))) → faultAt k (drop 1 (sheetFaults sh)) .found ≡ true
+      → faultAt k (drop 1 (sheetFaults sh)) .number ≡ firstOf (drop 1 (sheetFaults sh))
+  said-at k c e = sym (first-at k (drop 1 (sheetFaults sh)) c e)
 
-  pub said-14 : topFault sh ≡ true → 14 ≡ firstOf (drop 1 (sheetFaults sh))
-  unfolding sheetFaults
-  said-14 e = after 0 tt 14 (sym (choose-true 14 _ e))
-
-  module _ (top : topFault sh ≡ false) where
-    pub said-6 : versionFault (listsStated sh .multiplex) ≡ true → 6 ≡ firstOf (drop 1 (sheetFaults sh))
-    unfolding sheetFaults
-    said-6 e = after 1 (top, tt) 6 (sym (choose-true 6 _ e))
-
-    module _ (version : versionFault (listsStated sh .multiplex) ≡ false) where
-      pub said-13 : countFault (pStated sh) (sStated sh) (dStated sh) (listsStated sh) ≡ true → 13 ≡ firstOf (drop 1 (sheetFaults sh))
-      unfolding sheetFaults
-      said-13 e = after 2 (top, (version, tt)) 13 (sym (choose-true 13 _ e))
-
-      module _ (count : countFault (pStated sh) (sStated sh) (dStated sh) (listsStated sh) ≡ false) where
-        pub said-7 : listsFault (pStated sh) (sStated sh) (dStated sh) ≡ true → 7 ≡ firstOf (drop 1 (sheetFaults sh))
-        unfolding sheetFaults
-        said-7 e = after 3 (top, (version, (count, tt))) 7 (sym (choose-true 7 _ e))
-
-        pub said-rest : listsFault (pStated sh) (sStated sh) (dStated sh) ≡ false → (n : ℕ) → n ≡ firstOf (drop 5 (sheetFaults sh)) → n ≡ firstOf (drop 1 (sheetFaults sh))
-        unfolding sheetFaults
-        said-rest e n f = after 4 (top, (version, (count, (e, tt)))) n f
+  pub said-behind : (k : ℕ) → AllClear (take k (drop 1 (sheetFaults sh))) → (n : ℕ) → n ≡ firstOf (drop k (drop 1 (sheetFaults sh))) → n ≡ firstOf (drop 1 (sheetFaults sh))
+  said-behind k c n e = e ∙ sym (first-drop k (drop 1 (sheetFaults sh)) c)
 
   -- ---- the check's answer
   pub faulty : (n : ℕ) → n ≡ firstOf (sheetFaults sh) → (n ≡ 0 → ⊥) → refusedBy n ≡ checked sh
   unfolding checked
-  faulty n e h =
-      sym (choose-false _ (refusedBy (firstOf (sheetFaults sh))) (ne-eqb (firstOf (sheetFaults sh)) 0 (λ z. h (e ∙ z))) ∙ ap refusedBy (sym e))
+  faulty n e h = sym (verdict-refused (sheetFaults sh) _ (sym e) h)
 
   pub header-faulty : headerFault sh ≡ true → refusedBy 12 ≡ checked sh
   unfolding sheetFaults
@@ -121,55 +102,22 @@ module _ (sh : List ℕ) where
 
   pub sound : firstOf (sheetFaults sh) ≡ 0 → (p s d : ℕ) → p ≡ pStated sh → s ≡ sStated sh → d ≡ dStated sh → counted p s d ≡ checked sh
   unfolding checked
-  sound e p s d x y z =
-      sym (choose-true _ (refusedBy (firstOf (sheetFaults sh))) (eq-eqb (firstOf (sheetFaults sh)) 0 e)
-      ∙ (λ i. record { number = 0; values = sym x i ∷ sym y i ∷ sym z i ∷ [] }))
+  sound e p s d x y z = (λ i. counted (x i) (y i) (z i)) ∙ sym (verdict-accepted (sheetFaults sh) _ e)
 
 -- ---- the check's answer taken apart
-said-sound : (sh : List ℕ) → firstOf (sheetFaults sh) ≡ 0 → checked sh ≡ counted (pStated sh) (sStated sh) (dStated sh)
-unfolding checked
-said-sound sh e = choose-true _ _ (eq-eqb (firstOf (sheetFaults sh)) 0 e)
-
-said-faulty : (sh : List ℕ) → (firstOf (sheetFaults sh) ≡ 0 → ⊥) → checked sh ≡ refusedBy (firstOf (sheetFaults sh))
-unfolding checked
-said-faulty sh h = choose-false _ _ (ne-eqb (firstOf (sheetFaults sh)) 0 h)
-
-values-length : {t u : Told} → t ≡ u → length (t .values) ≡ length (u .values)
-values-length e = ap (λ t. length (t .values)) e
-
 pub no-sheet : (sh : List ℕ) (n : ℕ) → refusedBy n ≡ checked sh → (firstOf (sheetFaults sh) ≡ 0 → ⊥) × (n ≡ firstOf (sheetFaults sh))
-no-sheet sh n e =
-    let h : firstOf (sheetFaults sh) ≡ 0 → ⊥ = λ z. absurd (omega (arith, values-length (e ∙ said-sound sh z))) in
-    (h, ap (λ t. t .number) (e ∙ said-faulty sh h))
+unfolding checked
+no-sheet sh n e = refused-by (sheetFaults sh) (pStated sh) (sStated sh ∷ dStated sh ∷ []) e
 
-pub record Said (sh : List ℕ) (p s d : ℕ) : Type 0 where
-  pub clear : firstOf (sheetFaults sh) ≡ 0
-  pub pipes : p ≡ pStated sh
-  pub streams : s ≡ sStated sh
-  pub sections : d ≡ dStated sh
-
-pub said : (sh : List ℕ) (p s d : ℕ) → counted p s d ≡ checked sh → Said sh p s d
-said sh p s d e =
-    elim (ℕ-discrete (firstOf (sheetFaults sh)) 0) [
-      | yes z ↦ (
-          let f : counted p s d ≡ counted (pStated sh) (sStated sh) (dStated sh) = e ∙ said-sound sh z in
-          record {
-            clear = z;
-            pipes = ap (λ t. getD (t .values) 0 0) f;
-            streams = ap (λ t. getD (t .values) 1 0) f;
-            sections = ap (λ t. getD (t .values) 2 0) f;
-          })
-      | no h ↦ absurd (omega (arith, values-length (e ∙ said-faulty sh h)))
-    ]
+pub said : (sh : List ℕ) (p s d : ℕ) → counted p s d ≡ checked sh → Found (sheetFaults sh) p s d (pStated sh) (sStated sh) (dStated sh)
+unfolding checked
+said sh p s d e = counted-found (sheetFaults sh) (pStated sh) (sStated sh) (dStated sh) e
 
 -- ---- the writer's outcome
 module _ (sh word : List ℕ) where
   refused : (n : ℕ) → writeRefusal sh word ≡ n → (n ≡ 0 → ⊥) → Is (writing sh word) (refusedBy n) word
   unfolding writing
-  refused n e h =
-      gave
-      (choose-false _ _ (ne-eqb (writeRefusal sh word) 0 (λ z. h (sym e ∙ z)))
-      ∙ ap (λ (k : ℕ). record { answer = refusedBy k; memory = word }) e)
+  refused n e h = refused-call _ word (writeRefusal sh word) e h
 
   pub word-denied : (length word ≡ 96 → ⊥) → Is (writing sh word) (refusedBy 1) word
   unfolding writeRefusal

@@ -1,22 +1,21 @@
--- Laws of the raster, a word laid out one bit to a byte: a bit more, a section more, a byte packed, and the word of a sheet's lists part by part.
+-- Laws of the raster, a word laid out one bit to a byte: a bit more, a section more, and the word of a sheet's lists part by part.
 -- Assumes nothing.
-use Prim.Native.Nat.{ℕ, zero, suc, _+_, _-_, _*_, _/_, _%_, _^_, _≤_, _<_}
+use Prim.Native.Nat.{ℕ, zero, suc, _+_, _-_, _*_, _%_, _≤_, _<_}
 use mathlib.Core.Path.{_≡_, refl, sym, ap, ap₂, _∙_, subst, subst₂}
 use mathlib.Core.List.{List, [], _∷_, _++_, append-assoc}
-use native.Mathlib.Nat.{mod-eq-of-lt, lt-of-lt-of-le, mul-comm}
+use native.Mathlib.Nat.{mod-eq-of-lt, mul-comm}
 use native.Mathlib.Numerals.{add-one}
 use native.Mathlib.Omega.{arith}
-use lib.ListN.{length, getD, take, drop, set, replicate, length-append, length-take, length-drop, length-replicate}
-use lib.Seq.{paste, paste-suc, take-suc, take-at, drop-drop, getD-take, getD-drop, take-take, length-take-le}
-use lib.Pow.{pow-mono}
-use Rattle.ground.proofs.Copy.{over, over-more, over-all, paste-more}
+use lib.ListN.{length, getD, take, drop, set, replicate, length-append, length-drop, length-replicate}
+use lib.Seq.{paste, paste-suc, take-at, drop-drop, getD-take, getD-drop, take-take, length-take-le}
+use Rattle.ground.proofs.Copy.{paste-more}
 use Rattle.ground.proofs.Repeat.{drop-replicate, replicate-from}
-use Rattle.bits.specs.Lists.{bits, num, unpack, pack, Below}
+use Rattle.bits.specs.Lists.{bits, unpack, pack, Below}
 use Rattle.bits.specs.Places.{fieldAt}
-use Rattle.bits.proofs.Lists.{bits-length, num-lt, num-snoc, unpack-below, unpack-length, pack-length, unpack-pack}
-use Rattle.bits.proofs.Below.{below-append, below-take, below-drop, below-replicate}
+use Rattle.bits.proofs.Lists.{bits-length, unpack-below, unpack-length, pack-length, unpack-pack}
+use Rattle.bits.proofs.Below.{below-append, below-drop, below-replicate}
 use Rattle.bits.proofs.Places.{field-lt}
-use Rattle.bits.proofs.Joined.{bits-at, field-bit, pack-at, run-unpack}
+use Rattle.bits.proofs.Joined.{field-bit, run-unpack}
 use Rattle.crc.specs.Crc.{crcOf, crc12Of}
 use Rattle.description.specs.Rows.{width, join, cut, joins, cuts}
 use Rattle.description.specs.Fields.{table15, table16, table16b, table18, table19}
@@ -26,6 +25,7 @@ use Rattle.description.specs.Layout.{body, padded, sealed, wordOf}
 use Rattle.description.specs.Form1.{bare, sheetSections, sheetLists}
 use Rattle.description.specs.Sheet.{sheetEnd}
 use Rattle.description.proofs.Rows.{join-length, joins-length, join-cut, joins-cuts, joins-at, cuts-at, cuts-length}
+use Rattle.description.proofs.Form1.{bare-length}
 use Rattle.description.proofs.Word.{body-below}
 use Rattle.description.proofs.Sealed.{sealed-below}
 use Rattle.signalling.proofs.Fill.{Front, front-none, front-more}
@@ -48,10 +48,6 @@ bit-more o w at to n i r hd h f e =
 -- the d sections in the bits b, without the four bits above each
 abbrev pub bareBits : ℕ → List ℕ → List ℕ
 bareBits d b = joins table19 (bare (cuts (4 ∷ table19) d b))
-
-bare-length : (rs : List (List ℕ)) → length (bare rs) ≡ length rs
-bare-length [] = refl
-bare-length (r ∷ rs) = ap suc (bare-length rs)
 
 bare-at : (rs : List (List ℕ)) (k : ℕ) → k < length rs → getD (bare rs) k [] ≡ drop 1 (getD rs k [])
 bare-at [] k h = absurd (omega arith)
@@ -97,29 +93,6 @@ section-more o w at to d k hd h f =
     take-take 12 12 (drop (at + 16 * k + 4) u) (omega arith) ∙ ap (take 12) (sym c) ∙ sym (from-row d k b hb fb h) in
     let j : 12 * k + 12 ≡ 12 * (k + 1) = omega arith in
     paste-more o to (bareBits d b) y (12 * k) 12 (omega arith) (omega (arith, bare-bits d b)) e ∙ ap (paste o to (bareBits d b)) j
-
--- ---- a bit more of a number
-pub put-more : (o : List ℕ) (to n v i : ℕ) → to + i < length o → i < n
-    → set (paste o to (bits n v) i) (to + i) (v / 2 ^ (n - 1 - i) % 2) ≡ paste o to (bits n v) (i + 1)
-put-more o to n v i hd h = rw (add-one, ← bits-at n v i h) (paste-suc o to (bits n v) i 0 hd (rw bits-length h))
-
--- ---- a bit more of a byte
-pub byte-more : (b : List ℕ) (at i : ℕ) → at + i < length b → num (take (i + 1) (drop at b)) ≡ num (take i (drop at b)) * 2 + getD b (at + i) 0
-byte-more b at i h =
-    let l : i < length (drop at b) = rw length-drop (omega arith) in
-    rw (add-one, take-suc (drop at b) i 0 l, num-snoc, getD-drop)
-
-pub byte-lt : (k i : ℕ) (b : List ℕ) (at : ℕ) → i ≤ k → Below 2 b → num (take i (drop at b)) < 2 ^ k
-byte-lt k i b at h m =
-    lt-of-lt-of-le (num-lt (take i (drop at b)) (below-take 2 i (drop at b) (below-drop 2 at b m))) (pow-mono {j = k} (rw length-take (omega arith)))
-
--- ---- a byte more of a word
-pub pack-more : (w b : List ℕ) (k r : ℕ) → k < length w → r ≡ num (take 8 (drop (8 * k) b))
-    → set (over w (pack (length w) b) k) k r ≡ over w (pack (length w) b) (k + 1)
-pack-more w b k r h e = rw (e, ← pack-at (length w) b k h) (over-more w (pack (length w) b) k 0 h (rw pack-length h))
-
-pub pack-end : (w b : List ℕ) → over w (pack (length w) b) (length w) ≡ pack (length w) b
-pack-end w b = over-all w (pack (length w) b) (length w) refl (pack-length (length w) b)
 
 -- ---- the parts of the word of a sheet's bits b
 module _ (b : List ℕ) (p s d : ℕ) (below : Below 2 b) (long : length b ≡ 8 * sheetEnd 12 p s d) where

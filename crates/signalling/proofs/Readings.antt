@@ -4,15 +4,15 @@ use Prim.Native.Nat.{ℕ, _+_, _*_, _≤_, _<_}
 use mathlib.Core.Path.{_≡_, refl, sym, ap, ap₂, _∙_, subst}
 use mathlib.Core.Bool.{Bool, true, false, not}
 use mathlib.Core.List.{List, [], _∷_}
-use native.Mathlib.Decide.{ℕ-discrete}
 use native.Mathlib.Omega.{arith}
 use lib.Dec.{eqb, ltb}
 use lib.ListN.{length, getD}
 use borrow.Author.Tests.{eq-eqb, ne-eqb, lt-ltb}
 use Rattle.ground.specs.Outcome.{Outcome, Told, Is}
-use Rattle.ground.specs.Choice.{choose, either, refuse, firstOf}
+use Rattle.ground.specs.Choice.{choose, either, refuse, Fault, firstOf, verdict}
 use Rattle.ground.proofs.Outcome.{gave}
-use Rattle.ground.proofs.Choice.{choose-true, choose-false, first-found}
+use Rattle.ground.proofs.Choice.{choose-true, first-found}
+use Rattle.ground.proofs.Answers.{refusedBy, acceptedWith, refused-by, accepted-with, refused-call}
 use Rattle.bits.specs.Lists.{unpack}
 use Rattle.bits.proofs.Lists.{unpack-below}
 use Rattle.description.specs.Rules.{size}
@@ -24,20 +24,16 @@ use Rattle.description.proofs.Sealed.{passes, counts-in}
 use Rattle.description.proofs.Tests.{lists-clear}
 use Rattle.description.proofs.Word.{counted-in, sound-in}
 use Rattle.signalling.specs.Filled.{Counts}
-use Rattle.signalling.proofs.Surveys.{refusedBy}
 
 -- an accepted word's answer
 abbrev pub counted : ℕ → ℕ → ℕ → Told
-counted p s d = record { number = 0; values = p ∷ s ∷ d ∷ [] }
+counted p s d = acceptedWith (p ∷ s ∷ d ∷ [])
 
 -- ---- refused for its lengths
 module _ (w out : List ℕ) where
   refused : (n : ℕ) → readRefusal w out ≡ n → (n ≡ 0 → ⊥) → Is (reading w out) (refusedBy n) out
   unfolding reading
-  refused n e h =
-      gave
-      (choose-false _ _ (ne-eqb (readRefusal w out) 0 (λ z. h (sym e ∙ z)))
-      ∙ ap (λ (k : ℕ). record { answer = refusedBy k; memory = out }) e)
+  refused n e h = refused-call _ out (readRefusal w out) e h
 
   wrong : (a b : Bool) → either a b ≡ true → not (eqb (length w) 96) ≡ a → ltb (length out) 128 ≡ b → readRefusal w out ≡ 1
   unfolding readRefusal
@@ -51,43 +47,32 @@ module _ (w out : List ℕ) where
   room-length n h = refused 1 (wrong false true refl (ap not (eq-eqb (length w) 96 n)) (lt-ltb (length out) 128 h)) (λ z. omega arith)
 
 -- ---- what the tests said
-said-none : (b : List ℕ) → firstOf (wordFaults b) ≡ 0 → surveyed b ≡ counted (pIn b) (sIn b) (dIn b)
-unfolding surveyed
-said-none b e = choose-true _ _ (eq-eqb (firstOf (wordFaults b)) 0 e)
+-- an acceptance: no fault is found, and the counts p, s and d are x, y and z
+pub record Found (l : List Fault) (p s d x y z : ℕ) : Type 0 where
+  pub clear : firstOf l ≡ 0
+  pub pipes : p ≡ x
+  pub streams : s ≡ y
+  pub sections : d ≡ z
 
-said-some : (b : List ℕ) → (firstOf (wordFaults b) ≡ 0 → ⊥) → surveyed b ≡ refusedBy (firstOf (wordFaults b))
-unfolding surveyed
-said-some b h = choose-false _ _ (ne-eqb (firstOf (wordFaults b)) 0 h)
-
-values-length : {t u : Told} → t ≡ u → length (t .values) ≡ length (u .values)
-values-length e = ap (λ t. length (t .values)) e
+pub counted-found : (l : List Fault) (x y z : ℕ) {p s d : ℕ} → counted p s d ≡ verdict l (x ∷ y ∷ z ∷ []) → Found l p s d x y z
+counted-found l x y z e =
+    let f = accepted-with l x (y ∷ z ∷ []) e in
+    record {
+      clear = f .0;
+      pipes = ap (λ (k : List ℕ). getD k 0 0) (f .1);
+      streams = ap (λ (k : List ℕ). getD k 1 0) (f .1);
+      sections = ap (λ (k : List ℕ). getD k 2 0) (f .1);
+    }
 
 -- a refusal is no acceptance
 pub no-counts : (b : List ℕ) (n : ℕ) → refusedBy n ≡ surveyed b → (firstOf (wordFaults b) ≡ 0 → ⊥) × (n ≡ firstOf (wordFaults b))
-no-counts b n e =
-    let h : firstOf (wordFaults b) ≡ 0 → ⊥ = λ z. absurd (omega (arith, values-length (e ∙ said-none b z))) in
-    (h, ap (λ t. t .number) (e ∙ said-some b h))
+unfolding surveyed
+no-counts b n e = refused-by (wordFaults b) (pIn b) (sIn b ∷ dIn b ∷ []) e
 
 -- an acceptance has the counts of the word's lists
-pub record Found (b : List ℕ) (p s d : ℕ) : Type 0 where
-  pub clear : firstOf (wordFaults b) ≡ 0
-  pub pipes : p ≡ pIn b
-  pub streams : s ≡ sIn b
-  pub sections : d ≡ dIn b
-
-pub found : (b : List ℕ) (p s d : ℕ) → counted p s d ≡ surveyed b → Found b p s d
-found b p s d e =
-    elim (ℕ-discrete (firstOf (wordFaults b)) 0) [
-      | yes z ↦ (
-          let f : counted p s d ≡ counted (pIn b) (sIn b) (dIn b) = e ∙ said-none b z in
-          record {
-            clear = z;
-            pipes = ap (λ t. getD (t .values) 0 0) f;
-            streams = ap (λ t. getD (t .values) 1 0) f;
-            sections = ap (λ t. getD (t .values) 2 0) f;
-          })
-      | no h ↦ absurd (omega (arith, values-length (e ∙ said-some b h)))
-    ]
+pub found : (b : List ℕ) (p s d : ℕ) → counted p s d ≡ surveyed b → Found (wordFaults b) p s d (pIn b) (sIn b) (dIn b)
+unfolding surveyed
+found b p s d e = counted-found (wordFaults b) (pIn b) (sIn b) (dIn b) e
 
 -- ---- the outcome
 module _ (w out : List ℕ) (n : length w ≡ 96) (room : 128 ≤ length out) where

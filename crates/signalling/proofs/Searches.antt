@@ -2,7 +2,7 @@
 -- Assumes nothing.
 use Prim.Native.Nat.{ℕ, zero, suc, _+_, _-_, _*_, _%_, _≤_, _<_}
 use mathlib.Core.Path.{_≡_, refl, sym, ap, ap₂, _∙_, subst}
-use mathlib.Core.Bool.{Bool, true, false, not}
+use mathlib.Core.Bool.{Bool, false, not}
 use mathlib.Core.List.{List, [], _∷_}
 use native.Mathlib.Nat.{mul-add, add-assoc}
 use native.Mathlib.Numerals.{add-one}
@@ -11,7 +11,7 @@ use lib.Dec.{eqb, ltb}
 use lib.ListN.{length, getD, take, drop, drop-of-length-le}
 use lib.Seq.{drop-cons, drop-drop}
 use borrow.Author.Tests.{lt-ltb, le-ltb}
-use Rattle.ground.specs.Choice.{both, either, any, refuse, firstOf}
+use Rattle.ground.specs.Choice.{both, either, any, Fault, refuse, firstOf}
 use Rattle.ground.proofs.Choice.{both-first}
 use Rattle.bits.specs.Lists.{unpack}
 use Rattle.bits.specs.Places.{fieldAt, fieldsAt}
@@ -106,17 +106,8 @@ unfolding idFault
 ids-done l i whole h e = e ∙ ap idFault (drop-of-length-le l h)
 
 -- ---- the three in their order
+abbrev pub judgements : Bool → Bool → Bool → List Fault
+judgements a b c = refuse 9 a ∷ refuse 10 b ∷ refuse 11 c ∷ []
+
 abbrev pub judged : Bool → Bool → Bool → ℕ
-judged a b c = firstOf (refuse 9 a ∷ refuse 10 b ∷ refuse 11 c ∷ [])
-
-pub judged-9 : {a : Bool} (b c : Bool) → a ≡ true → judged a b c ≡ 9
-judged-9 b c e = ap (λ (t : Bool). judged t b c) e
-
-pub judged-10 : {a b : Bool} (c : Bool) → a ≡ false → b ≡ true → judged a b c ≡ 10
-judged-10 c e f = ap₂ (λ (t u : Bool). judged t u c) e f
-
-pub judged-11 : {a b c : Bool} → a ≡ false → b ≡ false → c ≡ true → judged a b c ≡ 11
-judged-11 {a} {b} {c} e f g = ap₂ (λ (t u : Bool). judged t u c) e f ∙ ap (λ (t : Bool). judged false false t) g
-
-pub judged-0 : {a b c : Bool} → a ≡ false → b ≡ false → c ≡ false → judged a b c ≡ 0
-judged-0 {a} {b} {c} e f g = ap₂ (λ (t u : Bool). judged t u c) e f ∙ ap (λ (t : Bool). judged false false t) g
+judged a b c = firstOf (judgements a b c)

@@ -1,6 +1,6 @@
 -- What each test of a word of 96 bytes finds, as it is read, and what the tests up to it say together.
 -- Assumes nothing.
-use Prim.Native.Nat.{ℕ, _+_, _-_, _*_, _≤_, _<_}
+use Prim.Native.Nat.{ℕ, suc, _+_, _-_, _*_, _≤_, _<_}
 use mathlib.Core.Path.{_≡_, refl, sym, ap, ap₂, _∙_}
 use mathlib.Core.Bool.{Bool, true, false, not}
 use mathlib.Core.List.{List, [], _∷_, map}
@@ -9,10 +9,10 @@ use native.Mathlib.Omega.{arith}
 use lib.Dec.{eqb, lit<}
 use lib.ListN.{length, take, drop}
 use lib.Seq.{slice, take-all}
-use borrow.Author.Tests.{eq-eqb, ne-eqb, lt-ltb}
-use Rattle.ground.specs.Outcome.{Told}
+use borrow.Author.Tests.{lt-ltb}
 use Rattle.ground.specs.Choice.{firstOf}
-use Rattle.ground.proofs.Choice.{choose-true, choose-false}
+use Rattle.ground.proofs.Choice.{faultAt, next-clear, next-found, found-above}
+use Rattle.ground.proofs.Answers.{refusedBy, acceptedWith, verdict-accepted, verdict-refused}
 use Rattle.bits.specs.Lists.{num, unpack}
 use Rattle.bits.specs.Places.{fieldAt, fieldsAt}
 use Rattle.bits.proofs.Lists.{unpack-length}
@@ -28,10 +28,6 @@ use Rattle.description.proofs.Rows.{offset}
 use Rattle.description.proofs.Tests.{clear-lists}
 use Rattle.description.proofs.Places.{row-field, fields-rows}
 use Rattle.signalling.proofs.Searches.{judged}
-
--- a refusal's number, alone
-abbrev pub refusedBy : ℕ → Told
-refusedBy m = record { number = m; values = [] }
 
 -- p, s and d are the counts of the lists in the bits b
 pub record Counted (b : List ℕ) (p s d : ℕ) : Type 0 where
@@ -156,56 +152,18 @@ none-yet b = record { rest = refl }
 module _ {k : ℕ} {b : List ℕ} (c : Passed k b) where
   pub told-at : (m : ℕ) → m ≡ firstOf (drop k (wordFaults b)) → (m ≡ 0 → ⊥) → refusedBy m ≡ surveyed b
   unfolding surveyed
-  told-at m e h =
-      let f : firstOf (wordFaults b) ≡ m = c .rest ∙ sym e in
-      sym (choose-false _ (refusedBy (firstOf (wordFaults b))) (ne-eqb (firstOf (wordFaults b)) 0 (λ z. h (sym f ∙ z))) ∙ ap refusedBy f)
+  told-at m e h = sym (verdict-refused (wordFaults b) _ (c .rest ∙ sym e) h)
 
   pub told-all : 0 ≡ firstOf (drop k (wordFaults b)) → {p s d : ℕ} → Counted b p s d
-      → record { number = 0; values = p ∷ s ∷ d ∷ [] } ≡ surveyed b
+      → acceptedWith (p ∷ s ∷ d ∷ []) ≡ surveyed b
   unfolding surveyed
   told-all e n =
-      let f : firstOf (wordFaults b) ≡ 0 = c .rest ∙ sym e in
-      sym (choose-true _ (refusedBy (firstOf (wordFaults b))) (eq-eqb (firstOf (wordFaults b)) 0 f)
-      ∙ (λ i. record { number = 0; values = sym (n .p-same) i ∷ sym (n .s-same) i ∷ sym (n .d-same) i ∷ [] }))
+      (λ i. acceptedWith (n .p-same i ∷ n .s-same i ∷ n .d-same i ∷ [])) ∙ sym (verdict-accepted (wordFaults b) _ (c .rest ∙ sym e))
 
--- each test in turn: it answers, or is passed
-module _ {b : List ℕ} where
-  pub told-2 : Passed 0 b → spareFault b ≡ true → refusedBy 2 ≡ surveyed b
+  -- the next test answers, or is passed
+  pub told-next : faultAt k (wordFaults b) .found ≡ true → refusedBy (faultAt k (wordFaults b) .number) ≡ surveyed b
   unfolding wordFaults
-  told-2 c e = told-at c 2 (sym (choose-true 2 _ e)) (λ z. omega arith)
+  told-next e = told-at _ (sym (next-found k (wordFaults b) e)) (λ z. omega (arith, found-above k (wordFaults b) tt e))
 
-  pub pass-2 : Passed 0 b → spareFault b ≡ false → Passed 1 b
-  unfolding wordFaults
-  pass-2 c e = record { rest = c .rest ∙ choose-false 2 _ e }
-
-  pub told-5 : Passed 1 b → crcFault b ≡ true → refusedBy 5 ≡ surveyed b
-  unfolding wordFaults
-  told-5 c e = told-at c 5 (sym (choose-true 5 _ e)) (λ z. omega arith)
-
-  pub pass-5 : Passed 1 b → crcFault b ≡ false → Passed 2 b
-  unfolding wordFaults
-  pass-5 c e = record { rest = c .rest ∙ choose-false 5 _ e }
-
-  pub told-6 : Passed 2 b → versionFault (multiplexIn b) ≡ true → refusedBy 6 ≡ surveyed b
-  unfolding wordFaults
-  told-6 c e = told-at c 6 (sym (choose-true 6 _ e)) (λ z. omega arith)
-
-  pub pass-6 : Passed 2 b → versionFault (multiplexIn b) ≡ false → Passed 3 b
-  unfolding wordFaults
-  pass-6 c e = record { rest = c .rest ∙ choose-false 6 _ e }
-
-  pub told-7 : Passed 3 b → listsFault (pIn b) (sIn b) (dIn b) ≡ true → refusedBy 7 ≡ surveyed b
-  unfolding wordFaults
-  told-7 c e = told-at c 7 (sym (choose-true 7 _ e)) (λ z. omega arith)
-
-  pub pass-7 : Passed 3 b → listsFault (pIn b) (sIn b) (dIn b) ≡ false → Passed 4 b
-  unfolding wordFaults
-  pass-7 c e = record { rest = c .rest ∙ choose-false 7 _ e }
-
-  pub told-8 : Passed 4 b → paddingFault b ≡ true → refusedBy 8 ≡ surveyed b
-  unfolding wordFaults
-  told-8 c e = told-at c 8 (sym (choose-true 8 _ e)) (λ z. omega arith)
-
-  pub pass-8 : Passed 4 b → paddingFault b ≡ false → Passed 5 b
-  unfolding wordFaults
-  pass-8 c e = record { rest = c .rest ∙ choose-false 8 _ e }
+  pub pass-next : faultAt k (wordFaults b) .found ≡ false → Passed (suc k) b
+  pass-next e = record { rest = c .rest ∙ next-clear k (wordFaults b) e }

@@ -4,8 +4,8 @@ use Prim.Native.Nat.{ℕ}
 use mathlib.Core.Path.{_≡_, refl, ap, _∙_}
 use mathlib.Core.List.{List, [], _∷_}
 use native.Mathlib.Omega.{arith}
-use lib.ListN.{length, getD}
-use Rattle.ground.specs.Outcome.{Told}
+use lib.ListN.{getD}
+use Rattle.ground.proofs.Outcome.{values-length}
 use Rattle.signalling.specs.Answers.{told}
 use Rattle.signalling.specs.declared.Reading.{Reading}
 use Rattle.signalling.specs.declared.Reading.the-variants.{Accepted, Refused}
@@ -13,6 +13,6 @@ use Rattle.signalling.specs.declared.Reading.the-variants.{Accepted, Ref
 pub told-one : (r r' : Reading) → told r ≡ told r' → r ≡ r'
 told-one (Accepted p s d) (Accepted p' s' d') e =
     λ i. Accepted (ap (λ t. getD (t .values) 0 0) e i) (ap (λ t. getD (t .values) 1 0) e i) (ap (λ t. getD (t .values) 2 0) e i)
-told-one (Accepted p s d) (Refused n) e = absurd (omega (arith, ap (λ t. length (t .values)) e))
-told-one (Refused n) (Accepted p s d) e = absurd (omega (arith, ap (λ t. length (t .values)) e))
+told-one (Accepted p s d) (Refused n) e = absurd (omega (arith, values-length e))
+told-one (Refused n) (Accepted p s d) e = absurd (omega (arith, values-length e))
 told-one (Refused n) (Refused m) e = ap (λ t. Refused (t .number)) e

@@ -15,9 +15,10 @@ use Rattle.bits.specs.Places.{fieldAt}
 use Rattle.description.specs.Fields.{table15, table16, table18, table19, operatorId, frameIndex, punctPat, pipeWidth}
 use Rattle.description.specs.Description.{Lists, ownStreams, ownSections}
 use Rattle.description.specs.Sheet.{streamsFrom, sectionsFrom}
-use Rattle.description.specs.Form1.{bare, sheetSections, sheetLists}
+use Rattle.description.specs.Form1.{sheetSections, sheetLists}
 use Rattle.description.proofs.Rows.{offset, cuts-length}
 use Rattle.description.proofs.Places.{row-field}
+use Rattle.description.proofs.Form1.{bare-length}
 use Rattle.signalling.proofs.Records.{pipeAt, pattern-at, width-at, streams-at, sections-at}
 use Rattle.text.specs.Words.{filled}
 use Rattle.text.specs.Listing.{multiplexLine, pipeLine, pipeLines, tailLine, accepted}
@@ -41,10 +42,6 @@ pipe-numbers w at k {pattern} {width} {a} {b} {s} {d} h ep ew ea eb es ed =
     ∙ ap₂ (λ (i j : ℕ). k ∷ pattern ∷ width ∷ i ∷ j ∷ []) u v
 
 -- ---- how long the stated lists are, and the numbers of the multiplex
-bare-length : (rs : List (List ℕ)) → length (bare rs) ≡ length rs
-bare-length [] = refl
-bare-length (r ∷ rs) = ap suc (bare-length rs)
-
 module _ (p s d : ℕ) (b : List ℕ) where
   pub pipes-length : length (sheetLists p s d b .pipes) ≡ p
   unfolding sheetLists

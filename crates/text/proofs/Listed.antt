@@ -9,19 +9,19 @@ use lib.Dec.{eqb, ltb}
 use lib.ListN.{length}
 use Rattle.ground.specs.Outcome.{Outcome, Told, Is}
 use Rattle.ground.proofs.Outcome.{gave}
-use Rattle.ground.proofs.Choice.{choose-true, choose-false, all-clear}
+use Rattle.ground.proofs.Choice.{choose-true, choose-false, choose-most, all-clear}
+use Rattle.ground.proofs.Answers.{refusedBy}
 use Rattle.bits.specs.Lists.{unpack}
 use Rattle.description.specs.Word.{front}
 use Rattle.description.specs.Form1.{pStated, sStated, dStated, sheetLists, sheetFaults, checked}
 use Rattle.description.proofs.Tests.{lists-clear}
-use Rattle.signalling.proofs.Surveys.{refusedBy}
 use Rattle.signalling.proofs.Readings.{counted}
 use Rattle.signalling.proofs.Judged.{said, no-sheet, long-enough, lists≡, size≡}
 use Rattle.text.specs.Listing.{accepted, refused, listing}
 use Rattle.text.specs.Answers.{answered, listed}
 use Rattle.text.specs.Put.{Put, Stated}
 use Rattle.text.proofs.Puts.{put-front}
-use Rattle.text.proofs.Short.{choose-most, stated-short, listing-short}
+use Rattle.text.proofs.Short.{stated-short, listing-short}
 
 module _ (sh out : List ℕ) where
   pub no-room : length out < 1024 → Is (listed sh out) (record { number = 1; values = [] }) out

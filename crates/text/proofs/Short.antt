@@ -10,8 +10,9 @@ use native.Mathlib.Omega.{arith}
 use lib.Dec.{eqb}
 use lib.ListN.{length, getD, drop, length-append}
 use borrow.Author.Tests.{eq-eqb, ne-eqb}
-use Rattle.ground.specs.Choice.{choose, Fault, firstOf}
-use Rattle.ground.proofs.Choice.{all-clear}
+use Rattle.ground.specs.Choice.{choose, firstOf}
+use Rattle.ground.proofs.Choice.{all-clear, first-most}
+use Rattle.ground.proofs.Answers.{verdict-number}
 use Rattle.bits.specs.Lists.{unpack, Below}
 use Rattle.bits.proofs.Lists.{unpack-below}
 use Rattle.bits.proofs.Below.{below-drop}
@@ -106,19 +107,7 @@ refused-short n h = filled-room _ _ (3 ∷ []) (digits-most 2 n h, tt)
 -- ---- the whole
 checked-number : (sh : List ℕ) → checked sh .number ≡ firstOf (sheetFaults sh)
 unfolding checked
-checked-number sh =
-    elim (ℕ-discrete (firstOf (sheetFaults sh)) 0) [
-      | yes e ↦ rw (eq-eqb (firstOf (sheetFaults sh)) 0 e) (sym e)
-      | no e ↦ rw (ne-eqb (firstOf (sheetFaults sh)) 0 e)
-    ]
-
-pub choose-most : {A : Type 0} (f : A → ℕ) (m : ℕ) (b : Bool) (x y : A) → f x ≤ m → f y ≤ m → f (choose b x y) ≤ m
-choose-most f m true x y h k = h
-choose-most f m false x y h k = k
-
-first-most : (m : ℕ) (l : List Fault) → Each (λ f. f .number ≤ m) l → firstOf l ≤ m
-first-most m [] h = omega arith
-first-most m (f ∷ l) h = choose-most (λ (n : ℕ). n) m (f .found) (f .number) (firstOf l) (h .0) (first-most m l (h .1))
+checked-number sh = verdict-number (sheetFaults sh) (pStated sh ∷ sStated sh ∷ dStated sh ∷ [])
 
 -- the lists that a sheet states, where they are within 750 bits
 pub stated-short : (sh : List ℕ) (p s d : ℕ) → size p s d ≤ 750 → length (accepted (sheetLists p s d (unpack sh))) ≤ 815
@@ -145,7 +134,7 @@ listing-short sh =
           let a = all-clear (sheetFaults sh) tt e in
           rw (eq-eqb (checked sh .number) 0 (checked-number sh ∙ e)) (stated-short sh (pStated sh) (sStated sh) (dStated sh) (lists-clear (pStated sh) (sStated sh) (dStated sh) (a .1 .1 .1 .1 .0))))
       | no e ↦ (
-          let m = first-most 14 (sheetFaults sh) (omega arith, (omega arith, (omega arith, (omega arith, (omega arith, (omega arith, (omega arith, (omega arith, tt)))))))) in
+          let m = first-most 14 (sheetFaults sh) tt in
           rw (ne-eqb (checked sh .number) 0 (λ z. e (sym (checked-number sh) ∙ z)))
           (le-trans (refused-short (checked sh .number) (omega (arith, checked-number sh))) (omega arith)))
     ]

@@ -2,14 +2,11 @@
 -- Assumes nothing.
 use mathlib.Core.Path.{_≡_, refl, ap}
 use native.Mathlib.Omega.{arith}
-use lib.ListN.{length, getD}
-use Rattle.ground.specs.Outcome.{Told}
+use lib.ListN.{getD}
+use Rattle.ground.proofs.Outcome.{values-length}
 use Rattle.text.specs.Answers.{told}
 use Rattle.text.specs.declared.Listing.{Listing}
 use Rattle.text.specs.declared.Listing.the-variants.{Text, Refused, NoRoom}
-
-values-length : {t u : Told} → t ≡ u → length (t .values) ≡ length (u .values)
-values-length e = ap (λ t. length (t .values)) e
 
 pub told-one : (r r' : Listing) → told r ≡ told r' → r ≡ r'
 told-one (Text n) (Text n') e = ap (λ t. Text (getD (t .values) 0 0)) e

@@ -6,12 +6,12 @@ use mathlib.Core.Bool.{Bool, true, false}
 use mathlib.Core.Logic.{inl, inr, ⊎-elim}
 use mathlib.Core.List.{List}
 use native.Mathlib.Omega.{arith}
-use lib.Dec.{eqb, ltb}
+use lib.Dec.{ltb}
 use lib.ListN.{length, getD}
-use borrow.Author.Tests.{eqb-true, not-false, eq-eqb, ne-eqb}
+use borrow.Author.Tests.{eq-eqb, ne-eqb}
 use Rattle.ground.specs.Choice.{choose}
 use Rattle.ground.specs.Outcome.{Is}
-use Rattle.ground.proofs.Choice.{choose-true, choose-false, all-clear}
+use Rattle.ground.proofs.Choice.{choose-true, choose-false, no-difference, all-clear}
 use Rattle.ground.proofs.Refusing.{refusal-leaves, acceptance-leaves}
 use Rattle.bits.specs.Lists.{bits, num, Below}
 use Rattle.bits.specs.Places.{bitAt, packed}
@@ -44,7 +44,7 @@ accepted p w bytes e =
     let c = all-clear (wordFaults p n w bytes) tt (parts .1) in
     record {
       coded = fit-coded 1536 96 (length w) p (parts .0);
-      size = eqb-true bytes (codeLength p n / 8) (not-false (eqb bytes (codeLength p n / 8)) (c .0));
+      size = no-difference bytes (codeLength p n / 8) (c .0);
     }
 
 -- a block that is coded is one of the two

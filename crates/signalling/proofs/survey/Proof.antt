@@ -11,8 +11,7 @@ use Rattle.bits.specs.Lists.{unpack}
 use Rattle.description.specs.Tests.{versionFault}
 use Rattle.description.specs.Word.{multiplexIn, pIn, spareFault, crcFault, paddingFault, wordFaults}
 use Rattle.signalling.proofs.Surveys.{Counted, spare-is, crc-is, version-is, p-is, counted-is, pipes-found, lists-long, lists-fit, padding-is, judge-is}
-use Rattle.signalling.proofs.Surveys.{Passed, none-yet, pass-2, pass-5, pass-6, pass-7, pass-8}
-use Rattle.signalling.proofs.Surveys.{told-2, told-5, told-6, told-7, told-8, told-at, told-all}
+use Rattle.signalling.proofs.Surveys.{Passed, none-yet, pass-next, told-next, told-at, told-all}
 use borrow.Author.Needs.{needs}
 use Rattle.signalling.proofs.survey.Statement.{statement}
 use Rattle.signalling.proofs.survey.Tie as tie
@@ -60,7 +59,8 @@ spare c = let o = from-2 c in spare-is (word o) (o .pre) (c .any-set .ensures)
 
 -- passed: 2
 passed-2 : (c : tie.Else1) → Passed 1 (bits (from-2 (c .before)))
-passed-2 c = pass-2 (none-yet _) (spare (c .before) ∙ c .if1 .left)
+unfolding wordFaults
+passed-2 c = pass-next (none-yet _) (spare (c .before) ∙ c .if1 .left)
 
 -- 5: the CRC that is sent is not that of the bits
 crc : (c : tie.After-crc12) → crcFault (bits (from-5 c)) ≡ not (eqb (c .before .word-bits .result) (c .crc12 .result))
@@ -68,7 +68,8 @@ crc c = let o = from-5 c in crc-is (word o) (o .pre) (c .before .word-bits .ensu
 
 -- passed: 2 5
 passed-5 : (c : tie.Else2) → Passed 2 (bits (from-5 (c .before)))
-passed-5 c = pass-5 (passed-2 (c .before .before .before)) (crc (c .before) ∙ ap not (eq-eqb _ _ (c .if2 .left)))
+unfolding wordFaults
+passed-5 c = pass-next (passed-2 (c .before .before .before)) (crc (c .before) ∙ ap not (eq-eqb _ _ (c .if2 .left)))
 
 -- 6: the version is not 0
 version : (c : tie.After-word-bits2) → versionFault (multiplexIn (bits (from-6 c))) ≡ not (eqb (c .word-bits2 .result) 0)
@@ -76,7 +77,8 @@ version c = let o = from-6 c in version-is (word o) (o .pre) (c .word-bits2 .ens
 
 -- passed: 2 5 6
 passed-6 : (c : tie.Else3) → Passed 3 (bits (from-6 (c .before)))
-passed-6 c = pass-6 (passed-5 (c .before .before)) (version (c .before) ∙ ap not (eq-eqb _ _ (c .if3 .left)))
+unfolding wordFaults
+passed-6 c = pass-next (passed-5 (c .before .before)) (version (c .before) ∙ ap not (eq-eqb _ _ (c .if3 .left)))
 
 -- 7: the lists are too long, for p alone and for p, s and d
 pipes : (c : tie.After-word-bits3) → c .word-bits3 .result ≡ pIn (bits (from-p c))
@@ -92,9 +94,10 @@ counted c =
 
 -- passed: 2 5 6 7
 passed-7 : (c : tie.Else5) → Passed 4 (bits (from-7 (c .before .before .before)))
+unfolding wordFaults
 passed-7 c =
     let k = c .before .before .before in
-    pass-7 (passed-6 (k .before .before .before .before)) (lists-fit (counted k) (c .if5 .left))
+    pass-next (passed-6 (k .before .before .before .before)) (lists-fit (counted k) (c .if5 .left))
 
 -- 8: a bit behind the lists is set
 padding : (c : tie.After-any-set2) → paddingFault (bits (from-7 (counts c))) ≡ c .any-set2 .result
@@ -102,7 +105,8 @@ padding c = padding-is (counted (counts c)) (c .any-set2 .ensures)
 
 -- passed: 2 5 6 7 8
 passed-8 : (c : tie.Else6) → Passed 5 (bits (from-7 (counts (c .before))))
-passed-8 c = pass-8 (passed-7 (c .before .before)) (padding (c .before) ∙ c .if6 .left)
+unfolding wordFaults
+passed-8 c = pass-next (passed-7 (c .before .before)) (padding (c .before) ∙ c .if6 .left)
 
 -- 9, 10 and 11: what `judge` finds
 judged : (c : tie.After-judge) → c .judge .result ≡ firstOf (drop 5 (wordFaults (bits (from-7 (counts (c .before .before))))))
@@ -116,7 +120,8 @@ any-set-requires : tie.Need-any-set-requires
 any-set-requires c κs = search needs
 
 returns : tie.Need-returns
-returns c = told-2 (none-yet _) (spare (c .before) ∙ c .if1 .taken)
+unfolding wordFaults
+returns c = told-next (none-yet _) (spare (c .before) ∙ c .if1 .taken)
 
 word-bits-requires : tie.Need-word-bits-requires
 word-bits-requires c κs = search needs
@@ -128,13 +133,15 @@ cast-if2 : tie.Need-cast-if2
 cast-if2 c = search needs
 
 returns-2 : tie.Need-returns-2
-returns-2 c = told-5 (passed-2 (c .before .before .before)) (crc (c .before) ∙ ap not (ne-eqb _ _ (c .if2 .taken)))
+unfolding wordFaults
+returns-2 c = told-next (passed-2 (c .before .before .before)) (crc (c .before) ∙ ap not (ne-eqb _ _ (c .if2 .taken)))
 
 word-bits-requires-2 : tie.Need-word-bits-requires-2
 word-bits-requires-2 c κs = search needs
 
 returns-3 : tie.Need-returns-3
-returns-3 c = told-6 (passed-5 (c .before .before)) (version (c .before) ∙ ap not (ne-eqb _ _ (c .if3 .taken)))
+unfolding wordFaults
+returns-3 c = told-next (passed-5 (c .before .before)) (version (c .before) ∙ ap not (ne-eqb _ _ (c .if3 .taken)))
 
 word-bits-requires-3 : tie.Need-word-bits-requires-3
 word-bits-requires-3 c κs = search needs
@@ -143,7 +150,8 @@ cast-p : tie.Need-cast-p
 cast-p c = search needs
 
 returns-4 : tie.Need-returns-4
-returns-4 c = told-7 (passed-6 (c .before .before)) (pipes-found _ (pipes (c .before)) (c .if4 .taken))
+unfolding wordFaults
+returns-4 c = told-next (passed-6 (c .before .before)) (pipes-found _ (pipes (c .before)) (c .if4 .taken))
 
 count-requires : tie.Need-count-requires
 count-requires c κs = search needs
@@ -182,15 +190,17 @@ add-end-3 : tie.Need-add-end-3
 add-end-3 c = search needs
 
 returns-5 : tie.Need-returns-5
+unfolding wordFaults
 returns-5 c =
     let k = c .before .before .before in
-    told-7 (passed-6 (k .before .before .before .before)) (lists-long (counted k) (c .if5 .taken))
+    told-next (passed-6 (k .before .before .before .before)) (lists-long (counted k) (c .if5 .taken))
 
 any-set-requires-2 : tie.Need-any-set-requires-2
 any-set-requires-2 c κs = search needs
 
 returns-6 : tie.Need-returns-6
-returns-6 c = told-8 (passed-7 (c .before .before)) (padding (c .before) ∙ c .if6 .taken)
+unfolding wordFaults
+returns-6 c = told-next (passed-7 (c .before .before)) (padding (c .before) ∙ c .if6 .taken)
 
 mul-judge : tie.Need-mul-judge
 mul-judge c = search needs

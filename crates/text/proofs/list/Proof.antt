@@ -3,7 +3,7 @@ use mathlib.Core.Path.{sym, ap, _∙_}
 use native.Mathlib.Omega.{arith}
 use borrow.Author.Needs.{needs}
 use Rattle.signalling.specs.CheckAnswers.{toldCheck}
-use Rattle.signalling.proofs.Surveys.{refusedBy}
+use Rattle.ground.proofs.Answers.{refusedBy}
 use Rattle.text.specs.Listing.{refused}
 use Rattle.text.proofs.Short.{refused-short}
 use Rattle.text.proofs.Listed.{no-room, stated, accepted-put, refused-put}

@@ -5,10 +5,10 @@ use mathlib.Core.Bool.{Bool, true, false}
 use native.Mathlib.Omega.{arith}
 use Rattle.description.specs.Rules.{size}
 use Rattle.description.specs.Tests.{versionFault}
-use Rattle.description.specs.Form1.{pStated, sStated, dStated, listsStated, topFault, countFault}
+use Rattle.description.specs.Form1.{pStated, sStated, dStated, listsStated, topFault, countFault, sheetFaults}
 use Rattle.description.proofs.Tests.{clear-lists}
 use Rattle.signalling.proofs.Surveys.{lists-found}
-use Rattle.signalling.proofs.Judged.{long-enough, top-is, version-read, count-is, size≡, sections-own, judge≡, said-14, said-6, said-13, said-7, said-rest}
+use Rattle.signalling.proofs.Judged.{long-enough, top-is, version-read, count-is, size≡, sections-own, judge≡, said-at, said-behind}
 use borrow.Author.Needs.{needs}
 use Rattle.signalling.proofs.form1.judge.Statement.{statement}
 use Rattle.signalling.proofs.form1.judge.Tie as tie
@@ -19,50 +19,43 @@ use Rattle.signalling.proofs.form1.counts_differ.Reads as counts-differ
 use Rattle.signalling.proofs.form1.top_set.Reads as top-set-reads
 use Rattle.signalling.proofs.walk.word_bits.Reads as word-bits-reads
 
--- src/form1.rt:92:26
 mul-sections : tie.Need-mul-sections
 mul-sections c = search needs
 
--- src/form1.rt:92:20
 add-sections : tie.Need-add-sections
 add-sections c = search needs
 
--- src/form1.rt:92:35
 mul-sections-2 : tie.Need-mul-sections-2
 mul-sections-2 c = search needs
 
--- src/form1.rt:92:20
 add-sections-2 : tie.Need-add-sections-2
 add-sections-2 c = search needs
 
--- src/form1.rt:93:9
 top-set-requires : tie.Need-top-set-requires
 top-set-requires c κs = search needs
 
--- src/form1.rt:94:17
 word-bits-requires : tie.Need-word-bits-requires
 word-bits-requires c κs = search needs
 
--- src/form1.rt:96:9
 returns : tie.Need-returns
+unfolding sheetFaults
 returns c =
     let o = c .before .before .before .before in
     let a = o .args in
     let sh = a .sheet .now in
     let h = o .pre in
-    said-14 sh (sym (c .before .before .top-set .ensures ∙ top-is sh (h .0) (a .p) (a .s) (a .d) (h .1) (h .2) (h .3)) ∙ c .if1 .taken)
+    said-at sh 0 tt (sym (c .before .before .top-set .ensures ∙ top-is sh (h .0) (a .p) (a .s) (a .d) (h .1) (h .2) (h .3)) ∙ c .if1 .taken)
 
--- src/form1.rt:99:9
 returns-2 : tie.Need-returns-2
+unfolding sheetFaults
 returns-2 c =
     let o = c .before .before .before .before .before in
     let a = o .args in
     let sh = a .sheet .now in
     let h = o .pre in
     let top : topFault sh ≡ false = sym (c .before .before .before .top-set .ensures ∙ top-is sh (h .0) (a .p) (a .s) (a .d) (h .1) (h .2) (h .3)) ∙ c .before .if1 .left in
-    said-6 sh top (sym (version-read sh (h .0) (a .p) (a .s) (a .d) (h .1) (h .2) (h .3) (c .before .before .word-bits .result) (c .before .before .word-bits .ensures)) ∙ c .if2 .taken)
+    said-at sh 1 (top, tt) (sym (version-read sh (h .0) (a .p) (a .s) (a .d) (h .1) (h .2) (h .3) (c .before .before .word-bits .result) (c .before .before .word-bits .ensures)) ∙ c .if2 .taken)
 
--- src/form1.rt:101:8
 counts-differ-requires : tie.Need-counts-differ-requires
 counts-differ-requires c κs =
     let o = c .before .before .before .before .before in
@@ -71,8 +64,8 @@ counts-differ-requires c κs =
     let h = o .pre in
     (long-enough sh (h .0) (a .p) (a .s) (a .d) (h .1) (h .2) (h .3), h .4, h .5, h .6)
 
--- src/form1.rt:102:9
 returns-3 : tie.Need-returns-3
+unfolding sheetFaults
 returns-3 c =
     let o = c .before .before .before .before .before .before .before in
     let a = o .args in
@@ -80,34 +73,28 @@ returns-3 c =
     let h = o .pre in
     let top : topFault sh ≡ false = sym (c .before .before .before .before .before .top-set .ensures ∙ top-is sh (h .0) (a .p) (a .s) (a .d) (h .1) (h .2) (h .3)) ∙ c .before .before .before .if1 .left in
     let version : versionFault (listsStated sh .multiplex) ≡ false = sym (version-read sh (h .0) (a .p) (a .s) (a .d) (h .1) (h .2) (h .3) (c .before .before .before .before .word-bits .result) (c .before .before .before .before .word-bits .ensures)) ∙ c .before .before .if2 .left in
-    said-13 sh top version (sym (c .before .counts-differ .ensures ∙ count-is sh (h .0) (a .p) (a .s) (a .d) (h .1) (h .2) (h .3)) ∙ c .if3 .taken)
+    said-at sh 2 (top, (version, tt)) (sym (c .before .counts-differ .ensures ∙ count-is sh (h .0) (a .p) (a .s) (a .d) (h .1) (h .2) (h .3)) ∙ c .if3 .taken)
 
--- src/form1.rt:104:19
 mul-if4 : tie.Need-mul-if4
 mul-if4 c = search needs
 
--- src/form1.rt:104:14
 add-if4 : tie.Need-add-if4
 add-if4 c = search needs
 
--- src/form1.rt:104:28
 mul-if4-2 : tie.Need-mul-if4-2
 mul-if4-2 c = search needs
 
--- src/form1.rt:104:14
 add-if4-2 : tie.Need-add-if4-2
 add-if4-2 c = search needs
 
--- src/form1.rt:104:37
 mul-if4-3 : tie.Need-mul-if4-3
 mul-if4-3 c = search needs
 
--- src/form1.rt:104:14
 add-if4-3 : tie.Need-add-if4-3
 add-if4-3 c = search needs
 
--- src/form1.rt:105:9
 returns-4 : tie.Need-returns-4
+unfolding sheetFaults
 returns-4 c =
     let o = c .before .before .before .before .before .before .before .before in
     let a = o .args in
@@ -117,21 +104,17 @@ returns-4 c =
     let version : versionFault (listsStated sh .multiplex) ≡ false = sym (version-read sh (h .0) (a .p) (a .s) (a .d) (h .1) (h .2) (h .3) (c .before .before .before .before .before .word-bits .result) (c .before .before .before .before .before .word-bits .ensures)) ∙ c .before .before .before .if2 .left in
     let same = sym (c .before .before .counts-differ .ensures) ∙ c .before .if3 .left in
     let count : countFault (pStated sh) (sStated sh) (dStated sh) (listsStated sh) ≡ false = sym (count-is sh (h .0) (a .p) (a .s) (a .d) (h .1) (h .2) (h .3)) ∙ same in
-    said-7 sh top version count (lists-found (pStated sh) (sStated sh) (dStated sh) (subst (λ (k : ℕ). 750 < k) (size≡ sh (h .0) (a .p) (a .s) (a .d) (h .1) (h .2) (h .3)) (omega (arith, c .if4 .taken))))
+    said-at sh 3 (top, (version, (count, tt))) (lists-found (pStated sh) (sStated sh) (dStated sh) (subst (λ (k : ℕ). 750 < k) (size≡ sh (h .0) (a .p) (a .s) (a .d) (h .1) (h .2) (h .3)) (omega (arith, c .if4 .taken))))
 
--- src/form1.rt:107:47
 mul-judge : tie.Need-mul-judge
 mul-judge c = search needs
 
--- src/form1.rt:107:41
 add-judge : tie.Need-add-judge
 add-judge c = search needs
 
--- src/form1.rt:107:58
 add-judge-2 : tie.Need-add-judge-2
 add-judge-2 c = search needs
 
--- src/form1.rt:107:5
 judge-requires : tie.Need-judge-requires
 judge-requires c κs =
     let o = c .before .before .before .before .before .before .before .before in
@@ -141,8 +124,8 @@ judge-requires c κs =
     let n = long-enough sh (h .0) (a .p) (a .s) (a .d) (h .1) (h .2) (h .3) in
     (omega (arith, n), omega (arith, n), omega arith, omega arith, omega arith, omega (arith, c .if4 .left))
 
--- src/form1.rt:88:1
 returns-5 : tie.Need-returns-5
+unfolding sheetFaults
 returns-5 c =
     let o = c .before .before .before .before .before .before .before .before .before in
     let a = o .args in
@@ -154,7 +137,7 @@ returns-5 c =
     let count : countFault (pStated sh) (sStated sh) (dStated sh) (listsStated sh) ≡ false = sym (count-is sh (h .0) (a .p) (a .s) (a .d) (h .1) (h .2) (h .3)) ∙ same in
     let fits : size (a .p) (a .s) (a .d) ≤ 750 = c .before .if4 .left in
     let lists = clear-lists (pStated sh) (sStated sh) (dStated sh) (subst (λ (k : ℕ). k ≤ 750) (size≡ sh (h .0) (a .p) (a .s) (a .d) (h .1) (h .2) (h .3)) fits) in
-    said-rest sh top version count lists (c .judge .result) (c .judge .ensures ∙ judge≡ sh (h .0) (a .p) (a .s) (a .d) (h .1) (h .2) (h .3) (sections-own sh (h .0) (a .p) (a .s) (a .d) (h .1) (h .2) (h .3) same))
+    said-behind sh 4 (top, (version, (count, (lists, tt)))) (c .judge .result) (c .judge .ensures ∙ judge≡ sh (h .0) (a .p) (a .s) (a .d) (h .1) (h .2) (h .3) (sections-own sh (h .0) (a .p) (a .s) (a .d) (h .1) (h .2) (h .3) same))
 
 pub judge-spec : {M : Type 1} → statement M
 judge-spec =

@@ -5,7 +5,7 @@ use native.Mathlib.Omega.{arith}
 use borrow.Author.Needs.{needs}
 use lib.ListN.{take, drop}
 use Rattle.bits.specs.Lists.{num}
-use Rattle.signalling.proofs.Rasters.{byte-more, byte-lt}
+use Rattle.bits.proofs.Lists.{num-more, num-part-lt}
 use Rattle.signalling.proofs.raster.byte_at.Statement.{statement}
 use Rattle.signalling.proofs.raster.byte_at.Tie as tie
 use Rattle.signalling.proofs.raster.byte_at.Reads as reads
@@ -24,7 +24,7 @@ loop-holds c = search needs
 mul-v : tie.Need-mul-v Inv-loop μ-loop
 mul-v c =
     let a = c .before .before .args in
-    omega (arith, byte-lt 7 (c .before .loop .i) (a .b .now) (a .at) (search needs) (search needs))
+    omega (arith, num-part-lt 7 (c .before .loop .i) (a .b .now) (a .at) (search needs) (search needs))
 
 add-v : tie.Need-add-v Inv-loop μ-loop
 add-v c = search needs
@@ -37,7 +37,7 @@ add-v-2 c =
     let o = c .before .before in
     let a = o .before .args in
     let i = o .loop .i in
-    omega (arith, byte-lt 8 (i + 1) (a .b .now) (a .at) (search needs) (search needs), byte-more (a .b .now) (a .at) i (search needs))
+    omega (arith, num-part-lt 8 (i + 1) (a .b .now) (a .at) (search needs) (search needs), num-more (a .b .now) (a .at) i (search needs))
 
 add-i : tie.Need-add-i Inv-loop μ-loop
 add-i c = search needs
@@ -49,7 +49,7 @@ loop-again : tie.Need-loop-again Inv-loop μ-loop
 loop-again c =
     let o = c .before .before in
     let a = o .before .args in
-    (search needs, omega (arith, byte-more (a .b .now) (a .at) (o .loop .i) (search needs)))
+    (search needs, omega (arith, num-more (a .b .now) (a .at) (o .loop .i) (search needs)))
 
 returns : tie.Need-returns Inv-loop μ-loop
 returns c =

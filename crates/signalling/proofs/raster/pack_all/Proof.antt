@@ -6,7 +6,7 @@ use borrow.Author.Needs.{needs}
 use lib.ListN.{length}
 use Rattle.ground.proofs.Copy.{over}
 use Rattle.bits.specs.Lists.{pack}
-use Rattle.signalling.proofs.Rasters.{pack-more, pack-end}
+use Rattle.bits.proofs.Stores.{pack-more, pack-end}
 use Rattle.signalling.proofs.raster.pack_all.Statement.{statement}
 use Rattle.signalling.proofs.raster.pack_all.Tie as tie
 use Rattle.signalling.proofs.raster.pack_all.Reads as reads

@@ -6,7 +6,7 @@ use borrow.Author.Needs.{needs}
 use lib.ListN.{length}
 use lib.Seq.{paste, paste-zero}
 use Rattle.bits.specs.Lists.{bits}
-use Rattle.signalling.proofs.Rasters.{put-more}
+use Rattle.bits.proofs.Stores.{put-more}
 use Rattle.signalling.proofs.raster.put.Statement.{statement}
 use Rattle.signalling.proofs.raster.put.Tie as tie
 use Rattle.signalling.proofs.raster.put.Reads as reads
