@@ -117,15 +117,13 @@ static bool put_pipe(struct frame *frame, const struct pipe *pipe)
     return true;
 }
 
-/* Prints the streams that have a pipe's slots, and what is yet to come in their order or length. */
+/* Prints the streams that have a pipe's slots, and that the tail pipe's codeword is yet to be cut. */
 static void say_slots(const struct pipe *pipe, size_t slots)
 {
     for (size_t slot = 0; slot < slots && slot < SLOTS_SHOWN; slot++)
         printf(" %d", slot_stream(pipe, slot));
     if (slots > SLOTS_SHOWN)
         printf(" ..");
-    if (pipe->countdown != 0)
-        printf("  (countdown %u not heeded: request 2026-13)", pipe->countdown);
     if (pipe->tail)
         printf("  (not cut to its width: request 2026-06)");
 }

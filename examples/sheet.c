@@ -68,13 +68,26 @@ size_t pipe_codewords(const struct pipe *pipe)
     return pipe->tail ? 1 : pipe->width / units;
 }
 
+/* The slots that a stream takes in a schedule period: STS_Width_Slots_1 + 1. */
+static size_t stream_slots(const struct pipe *pipe, size_t i)
+{
+    return pipe->streams[STREAM_BYTES * i + 1] + 1u;
+}
+
+/* The length of a pipe's schedule period, in slots. */
+static size_t period_slots(const struct pipe *pipe)
+{
+    size_t slots = 0;
+    for (size_t i = 0; i < pipe->count; i++)
+        slots += stream_slots(pipe, i);
+    return slots;
+}
+
 uint8_t slot_stream(const struct pipe *pipe, size_t slot)
 {
-    size_t i = 0;
-    /* a stream's record is its id and STS_Width_Slots_1, the number of its last slot */
-    while (slot > pipe->streams[STREAM_BYTES * i + 1]) {
-        slot -= pipe->streams[STREAM_BYTES * i + 1] + 1u;
-        i = (i + 1) % pipe->count;
-    }
+    size_t period = period_slots(pipe), i = 0;
+    size_t place = (slot + period - pipe->countdown % period) % period;
+    while (place >= stream_slots(pipe, i))
+        place -= stream_slots(pipe, i++);
     return pipe->streams[STREAM_BYTES * i];
 }

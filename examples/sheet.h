@@ -42,9 +42,9 @@ size_t codeword_bytes(unsigned pattern);
 size_t pipe_codewords(const struct pipe *pipe);
 
 /*
- * The id of the stream that has a slot of a pipe in use, slots counted from 0. The streams take their
- * widths in slots one after the other, and so again, from the start of the schedule. In which place of
- * it a frame really starts is said by the countdown; that is the slot calendar's, request 2026-13.
+ * The id of the stream that has a slot of a pipe in use, slots counted from 0. The streams take their widths
+ * in slots one after the other, and so again; the countdown tells how far the first slot is from where that
+ * begins anew, a whole number of such periods on (clause 4.10.3).
  */
 uint8_t slot_stream(const struct pipe *pipe, size_t slot);
 
