@@ -2,7 +2,7 @@
 -- Assumes nothing.
 use Prim.Native.Nat.{ℕ, zero, suc, _<_}
 use mathlib.Core.List.{List, [], _∷_, _++_}
-use lib.ListN.{length, getD, take, drop, replicate}
+use lib.ListN.{getD, take, drop, replicate}
 use Rattle.bits.specs.Lists.{Below}
 
 pub below-append : (m : ℕ) (a b : List ℕ) → Below m a → Below m b → Below m (a ++ b)

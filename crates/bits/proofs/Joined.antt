@@ -1,19 +1,19 @@
 -- The laws that join the two styles: a list of bits, and the bit at a place.
 -- Assumes nothing.
 use Prim.Native.Nat.{ℕ, zero, suc, _+_, _-_, _*_, _/_, _%_, _^_, _≤_, _<_}
-use mathlib.Core.Path.{_≡_, refl, sym, ap, ap₂, _∙_, subst}
+use mathlib.Core.Path.{_≡_, refl, sym, ap, _∙_, subst}
 use mathlib.Core.List.{List, [], _∷_, _++_}
 use native.Mathlib.Nat.{zero-div, zero-add, add-zero}
 use native.Mathlib.Numerals.{add-one}
 use native.Mathlib.Decide.{decLt}
 use native.Mathlib.Omega.{arith}
-use lib.ListN.{length, getD, take, drop, length-drop, List·getD-append, List·getD-eq-default}
+use lib.ListN.{length, getD, take, drop, length-drop, List·getD-append}
 use lib.Seq.{getD-append-add, getD-drop, getD-take, length-take-le, drop-drop, ext-getD}
 use Rattle.ground.specs.Table.{tab}
-use Rattle.ground.proofs.Table.{tab-cong, length-tab, getD-tab}
+use Rattle.ground.proofs.Table.{length-tab, getD-tab}
 use Rattle.bits.specs.Lists.{bits, num, unpack, pack, Below}
 use Rattle.bits.specs.Places.{bitAt, number, packed, fieldAt}
-use Rattle.bits.proofs.Lists.{bits-length, num-more, unpack-length, unpack-below, pack-length, unpack-pack, pack-unpack}
+use Rattle.bits.proofs.Lists.{bits-length, num-more, unpack-length, pack-length, unpack-pack, pack-unpack}
 use Rattle.bits.proofs.Places.{number-cong, field-is, packed-ext, packed-cong}
 
 -- bit i of the n low bits of v

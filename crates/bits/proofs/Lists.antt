@@ -1,7 +1,7 @@
 -- Laws of bits, num, unpack and pack.
 -- Assumes nothing.
 use Prim.Native.Nat.{ℕ, zero, suc, _+_, _-_, _*_, _/_, _%_, _^_, _≤_, _<_}
-use mathlib.Core.Path.{_≡_, refl, sym, ap, ap₂, _∙_, subst}
+use mathlib.Core.Path.{_≡_, refl, sym, ap, ap₂, _∙_}
 use mathlib.Core.List.{List, [], _∷_, _++_}
 use native.Mathlib.Nat.{pow-suc, mul-assoc, mul-comm, add-mul, mul-add-mod-self-right, mul-add-div-right, mod-eq-of-lt, mod-one, zero-mul, lt-of-lt-of-le}
 use native.Mathlib.Numerals.{one-add, add-one}

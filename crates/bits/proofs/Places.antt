@@ -8,9 +8,8 @@ use native.Mathlib.Numerals.{add-one}
 use native.Mathlib.Omega.{arith}
 use lib.ListN.{length, getD, take, drop}
 use lib.Pow.{pow-pos}
-use borrow.Author.Tests.{le-ltb, lt-ltb}
+use borrow.Author.Tests.{le-ltb}
 use Rattle.ground.specs.Table.{tab}
-use Rattle.ground.specs.Choice.{choose}
 use Rattle.ground.proofs.Choice.{choose-false}
 use Rattle.ground.proofs.Table.{length-tab, getD-tab, tab-ext, tab-cong, tab-shift, drop-tab, take-tab}
 use Rattle.bits.specs.Places.{bitAt, number, packed, fieldAt, fieldsAt}

@@ -1,13 +1,12 @@
 -- Fields by their places in packed bytes: what a read of a field gives of the row or the rows that stand there.
 -- Assumes nothing.
-use Prim.Native.Nat.{ℕ, zero, suc, _+_, _-_, _*_, _≤_, _<_}
-use mathlib.Core.Path.{_≡_, refl, sym, ap, ap₂, _∙_}
+use Prim.Native.Nat.{ℕ, suc, _+_, _-_, _*_, _≤_, _<_}
+use mathlib.Core.Path.{_≡_, sym, ap, _∙_}
 use mathlib.Core.List.{List, [], _∷_, map}
-use native.Mathlib.Nat.{mul-comm, le-trans}
+use native.Mathlib.Nat.{mul-comm}
 use native.Mathlib.Omega.{arith}
 use lib.ListN.{length, getD, take, drop, length-map, List·getD-map}
 use lib.Seq.{drop-drop}
-use Rattle.ground.specs.Table.{tab}
 use Rattle.ground.proofs.Table.{tab-ext}
 use Rattle.bits.specs.Lists.{num, unpack}
 use Rattle.bits.specs.Places.{fieldAt, fieldsAt}

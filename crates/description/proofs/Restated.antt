@@ -19,7 +19,7 @@ use Rattle.bits.proofs.Lists.{unpack-length, unpack-below, unpack-drop, unpack-
 use Rattle.description.specs.Rows.{Each, width, Row, join, joins, cuts}
 use Rattle.description.specs.Fields.{table15, table16, table16b, table18, table19, numPipes1}
 use Rattle.description.specs.Description.{Lists, streamCount}
-use Rattle.description.specs.Sheet.{two, inSheet, pipesFrom, streamsFrom, sectionsFrom, sheetEnd, header, records, sheetOf}
+use Rattle.description.specs.Sheet.{inSheet, pipesFrom, streamsFrom, sectionsFrom, sheetEnd, header, records, sheetOf}
 use Rattle.description.specs.Tests.{listsFault}
 use Rattle.description.specs.Form1.{pStated, sStated, dStated, twoAt, headerFault, sheetSections, sheetLists, listsStated, topFault, countFault, sheetFaults}
 use Rattle.description.proofs.Rows.{join-below, cut-row, join-cut, joins-below, joins-cuts, cuts-length, cuts-rows}

@@ -1,19 +1,17 @@
 -- A row is read back from what is written of it, and written back from what is read; the same for a list of rows.
 -- Assumes nothing.
-use Prim.Native.Nat.{ℕ, zero, suc, _+_, _-_, _*_, _^_, _≤_, _<_, min}
+use Prim.Native.Nat.{ℕ, zero, suc, _+_, _-_, _*_, _^_, _≤_, _<_}
 use mathlib.Core.Path.{_≡_, refl, sym, ap, ap₂, _∙_, subst}
 use mathlib.Core.List.{List, [], _∷_, _++_, append-assoc}
 use native.Mathlib.Omega.{arith}
 use native.Mathlib.Nat.{lt-of-lt-of-le, suc-mul, zero-mul, le-of-eq}
-use lib.ListN.{length, getD, take, drop, length-append, length-take, length-drop, take-append-drop}
+use lib.ListN.{length, getD, take, drop, length-append, length-take, length-drop}
 use lib.Seq.{take-at, drop-at, take-add, length-take-le, drop-drop}
 use lib.Pow.{pow-mono}
-use Rattle.bits.specs.Lists.{bits, num, Below, unpack, pack}
-use Rattle.bits.specs.Places.{fieldAt}
+use Rattle.bits.specs.Lists.{bits, num, Below, pack}
 use Rattle.bits.proofs.Lists.{bits-length, bits-below, num-bits, bits-num, num-lt, pack-take}
 use Rattle.bits.proofs.Below.{below-take, below-drop, below-append}
-use Rattle.bits.proofs.Joined.{field-num}
-use Rattle.description.specs.Rows.{Each, total, width, join, cut, Row, joins, cuts}
+use Rattle.description.specs.Rows.{Each, width, join, cut, Row, joins, cuts}
 
 pub join-length : (t vs : List ℕ) → length (join t vs) ≡ width t
 unfolding join width

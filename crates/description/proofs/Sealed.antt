@@ -2,10 +2,10 @@
 -- Assumes nothing.
 use Prim.Native.Nat.{ℕ, zero, suc, _+_, _-_, _*_, _^_, _≤_, _<_}
 use mathlib.Core.Path.{_≡_, refl, sym, ap, ap₂, _∙_, subst}
-use mathlib.Core.Bool.{Bool, true, false, not}
-use mathlib.Core.List.{List, [], _∷_, _++_, append-assoc, map}
+use mathlib.Core.Bool.{false, not}
+use mathlib.Core.List.{List, [], _∷_, _++_, append-assoc}
 use native.Mathlib.Omega.{arith}
-use lib.ListN.{length, getD, take, drop, replicate, length-append, length-take, length-drop, length-replicate, take-append-drop}
+use lib.ListN.{length, take, drop, replicate, length-append, length-drop, length-replicate, take-append-drop}
 use lib.Seq.{take-at, drop-at, drop-drop, length-take-le, take-take}
 use borrow.Author.Tests.{eq-eqb}
 use Rattle.ground.specs.Choice.{firstOf}
@@ -15,12 +15,11 @@ use Rattle.bits.proofs.Below.{below-take, below-drop, below-append}
 use Rattle.bits.proofs.Lists.{bits-num, num-bits, bits-length, bits-below}
 use Rattle.crc.specs.Crc.{crcOf}
 use Rattle.crc.proofs.Laws.{crc-lt}
-use Rattle.description.specs.Fields.{stsId, numTapsDiv2}
 use Rattle.description.specs.Description.{Lists}
 use Rattle.description.specs.Rules.{size}
 use Rattle.description.specs.Layout.{body, padded, sealed}
-use Rattle.description.specs.Tests.{versionFault, listsFault, anySet, widthFault, tapFault, idFault}
-use Rattle.description.specs.Word.{multiplexIn, pIn, pipesIn, sIn, dIn, streamsIn, sectionsIn, listsIn, spareFault, crcFault, paddingFault, wordFaults}
+use Rattle.description.specs.Tests.{listsFault, anySet}
+use Rattle.description.specs.Word.{pIn, sIn, dIn, listsIn, spareFault, crcFault, paddingFault, wordFaults}
 use Rattle.description.proofs.Deal.{Counted}
 use Rattle.description.proofs.Sound.{Sound}
 use Rattle.description.proofs.Tests.{lists-clear, none-set, set-none}

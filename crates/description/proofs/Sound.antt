@@ -1,6 +1,5 @@
 -- Lists whose rows fit their tables.
 -- Assumes nothing.
-use mathlib.Core.List.{List}
 use Rattle.description.specs.Rows.{Each, Row}
 use Rattle.description.specs.Fields.{table15, table16, table16b, table18, table19}
 use Rattle.description.specs.Description.{Lists}

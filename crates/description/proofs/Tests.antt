@@ -1,7 +1,7 @@
 -- Each test finds nothing exactly where its rule holds.
 -- Assumes nothing.
 use Prim.Native.Nat.{ℕ, zero, suc, _+_, _*_, _/_, _%_, _≤_, _<_}
-use mathlib.Core.Path.{_≡_, refl, sym, ap, ap₂, _∙_, subst}
+use mathlib.Core.Path.{_≡_, refl, sym, ap, ap₂, _∙_}
 use mathlib.Core.Bool.{Bool, true, false, not}
 use mathlib.Core.List.{List, [], _∷_, map, map-append}
 use native.Mathlib.Nat.{div-add-mod', mul-mod-left, not-suc-le-zero}
@@ -10,8 +10,8 @@ use native.Mathlib.Omega.{arith}
 use lib.Dec.{eqb, ltb}
 use lib.ListN.{length, getD, take, drop, replicate, length-map}
 use lib.Seq.{take-at, drop-at}
-use borrow.Author.Tests.{eqb-false, ltb-true, ltb-false, eq-eqb, ne-eqb, lt-ltb, le-ltb, not-true}
-use Rattle.ground.specs.Choice.{both, either, any}
+use borrow.Author.Tests.{eqb-false, ltb-false, eq-eqb, ne-eqb, lt-ltb, le-ltb}
+use Rattle.ground.specs.Choice.{either, any}
 use Rattle.ground.proofs.Choice.{no-difference, either-false, skip, both-false, both-first, both-second}
 use Rattle.patterns.specs.Rates.{unitsOf}
 use Rattle.description.specs.Rows.{Each, total}

@@ -1,16 +1,16 @@
 -- The lists in a word's bits: what is written is read back, and what is read is written back.
 -- Assumes nothing.
-use Prim.Native.Nat.{ℕ, zero, suc, _+_, _-_, _*_, _≤_, _<_}
-use mathlib.Core.Path.{_≡_, refl, sym, ap, ap₂, _∙_, subst}
+use Prim.Native.Nat.{ℕ, _+_, _-_, _*_, _≤_, _<_}
+use mathlib.Core.Path.{_≡_, sym, ap, ap₂, _∙_}
 use mathlib.Core.List.{List, [], _∷_, _++_, append-assoc}
 use native.Mathlib.Nat.{mul-comm}
 use native.Mathlib.Omega.{arith}
-use lib.ListN.{length, getD, take, drop, length-append, length-take, length-drop}
-use lib.Seq.{take-at, drop-at, drop-drop, take-add}
+use lib.ListN.{length, getD, take, drop, length-append, length-drop}
+use lib.Seq.{drop-at, drop-drop, take-add}
 use Rattle.bits.specs.Lists.{Below}
 use Rattle.bits.proofs.Below.{below-drop, below-append}
-use Rattle.description.specs.Rows.{Each, total, width, join, cut, Row, joins, cuts}
-use Rattle.description.specs.Fields.{table15, table16, table16b, table18, table19, numPipes1}
+use Rattle.description.specs.Rows.{width, join, joins}
+use Rattle.description.specs.Fields.{table15, table16, table16b, table18, table19}
 use Rattle.description.specs.Description.{Lists, streamCount, sectionCount}
 use Rattle.description.specs.Rules.{size}
 use Rattle.description.specs.Layout.{body}

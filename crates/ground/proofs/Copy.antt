@@ -1,6 +1,6 @@
 -- Laws of a copy from the front: the first i entries are those of the source, the rest is as before. (A copy to another place is `lib.Seq`'s `paste`.)
 -- Assumes nothing.
-use mathlib.Core.Path.{_≡_, refl, sym, ap, ap₂, _∙_}
+use mathlib.Core.Path.{_≡_, sym, ap, ap₂, _∙_}
 use mathlib.Core.List.{List, [], _∷_, _++_, append-nil, append-assoc}
 use Prim.Native.Nat.{ℕ, suc, _+_, _≤_, _<_}
 use native.Mathlib.Nat.{zero-add, add-assoc, le-of-eq}

@@ -1,7 +1,7 @@
 -- Tables: a list by its rule, and tests over all numbers below a bound.
 -- Assumes nothing.
 use Prim.Native.Nat.{ℕ, zero, suc}
-use mathlib.Core.Bool.{Bool, true, false}
+use mathlib.Core.Bool.{Bool, true}
 use mathlib.Core.List.{List, [], _∷_}
 use Rattle.ground.specs.Choice.{both}
 

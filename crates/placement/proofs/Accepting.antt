@@ -9,10 +9,10 @@ use native.Mathlib.Omega.{arith}
 use lib.Dec.{eqb}
 use lib.ListN.{length}
 use lib.IntN.{ℤ, pos}
-use borrow.Author.Tests.{eq-eqb, ne-eqb, eqb-true}
+use borrow.Author.Tests.{eq-eqb, eqb-true}
 use Rattle.ground.specs.Choice.{choose, Fault, refuse, firstOf}
 use Rattle.ground.specs.Outcome.{Is}
-use Rattle.ground.proofs.Choice.{choose-true, choose-false}
+use Rattle.ground.proofs.Choice.{choose-true}
 use Rattle.ground.proofs.Refusing.{refusal-leaves, acceptance-leaves}
 use Rattle.ground.proofs.Table.{tab-ext}
 use Rattle.patterns.specs.Rows.{copies}

@@ -1,14 +1,14 @@
 -- What the check of a sheet says, from what its tests found.
 -- Assumes nothing.
 use Prim.Native.Nat.{ℕ, _+_, _*_, _≤_, _<_}
-use mathlib.Core.Path.{_≡_, refl, sym, ap, ap₂, _∙_, subst}
-use mathlib.Core.Bool.{Bool, true, false, not}
+use mathlib.Core.Path.{_≡_, sym, ap, ap₂, _∙_}
+use mathlib.Core.Bool.{true, false, not}
 use mathlib.Core.List.{List, [], _∷_, map}
 use native.Mathlib.Omega.{arith}
 use lib.Dec.{eqb}
 use lib.ListN.{length, getD, take, drop}
 use borrow.Author.Tests.{eq-eqb, ne-eqb}
-use Rattle.ground.specs.Outcome.{Outcome, Is}
+use Rattle.ground.specs.Outcome.{Is}
 use Rattle.ground.specs.Choice.{refuse, firstOf}
 use Rattle.ground.proofs.Outcome.{gave}
 use Rattle.ground.proofs.Choice.{choose-true, choose-false, no-difference, either-false, AllClear, all-clear, first-drop, faultAt, first-at, first-found}
@@ -29,7 +29,6 @@ use Rattle.description.proofs.DemandWrite.{length-right}
 use Rattle.signalling.specs.Filled.{Stated}
 use Rattle.signalling.proofs.Searches.{judged}
 use Rattle.signalling.proofs.Stated.{tops-are, version-said, judge-said, pipes-are}
-use Rattle.signalling.proofs.Surveys.{lists-found}
 use Rattle.signalling.proofs.Readings.{counted, Found, counted-found}
 
 -- ---- the tests after the header's, in a sheet whose header is right

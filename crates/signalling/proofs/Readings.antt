@@ -1,15 +1,15 @@
 -- What the reader's answer and the sheet are, from what the tests said.
 -- Assumes nothing.
 use Prim.Native.Nat.{ℕ, _+_, _*_, _≤_, _<_}
-use mathlib.Core.Path.{_≡_, refl, sym, ap, ap₂, _∙_, subst}
+use mathlib.Core.Path.{_≡_, refl, sym, ap, ap₂, _∙_}
 use mathlib.Core.Bool.{Bool, true, false, not}
 use mathlib.Core.List.{List, [], _∷_}
 use native.Mathlib.Omega.{arith}
 use lib.Dec.{eqb, ltb}
 use lib.ListN.{length, getD}
 use borrow.Author.Tests.{eq-eqb, ne-eqb, lt-ltb}
-use Rattle.ground.specs.Outcome.{Outcome, Told, Is}
-use Rattle.ground.specs.Choice.{choose, either, refuse, Fault, firstOf, verdict}
+use Rattle.ground.specs.Outcome.{Told, Is}
+use Rattle.ground.specs.Choice.{either, refuse, Fault, firstOf, verdict}
 use Rattle.ground.proofs.Outcome.{gave}
 use Rattle.ground.proofs.Choice.{choose-true, first-found}
 use Rattle.ground.proofs.Answers.{refusedBy, acceptedWith, refused-by, accepted-with, refused-call}
@@ -18,7 +18,7 @@ use Rattle.bits.proofs.Lists.{unpack-below}
 use Rattle.description.specs.Rules.{size}
 use Rattle.description.specs.Sheet.{sheetOf, sheetEnd}
 use Rattle.description.specs.Word.{pIn, sIn, dIn, listsIn, wordFaults, readRefusal, front, surveyed, reading}
-use Rattle.description.proofs.Bounds.{Bounds, bounds}
+use Rattle.description.proofs.Bounds.{bounds}
 use Rattle.description.proofs.Demand.{lengths-right}
 use Rattle.description.proofs.Sealed.{passes, counts-in}
 use Rattle.description.proofs.Tests.{lists-clear}

@@ -1,13 +1,12 @@
 -- The records at a place of packed bytes: their fields as they are read, what they own, and the loops over them.
 -- Assumes nothing.
-use Prim.Native.Nat.{ℕ, zero, suc, _+_, _-_, _*_, _^_, _≤_, _<_}
-use mathlib.Core.Path.{_≡_, refl, sym, ap, ap₂, _∙_, subst}
-use mathlib.Core.Bool.{Bool, true, false}
+use Prim.Native.Nat.{ℕ, _+_, _-_, _*_, _^_, _≤_, _<_}
+use mathlib.Core.Path.{_≡_, sym, ap, ap₂, _∙_, subst}
 use mathlib.Core.List.{List, [], _∷_}
-use native.Mathlib.Nat.{add-zero, le-antisymm}
+use native.Mathlib.Nat.{add-zero}
 use native.Mathlib.Numerals.{add-one}
 use native.Mathlib.Omega.{arith}
-use lib.Dec.{eqb, lit<}
+use lib.Dec.{lit<}
 use lib.ListN.{length, getD, take, drop}
 use lib.Seq.{take-all}
 use borrow.Author.Tests.{eq-eqb, ne-eqb}
@@ -16,14 +15,13 @@ use Rattle.bits.specs.Lists.{unpack}
 use Rattle.bits.specs.Places.{fieldAt}
 use Rattle.bits.proofs.Lists.{unpack-below}
 use Rattle.bits.proofs.Below.{below-drop}
-use Rattle.bits.proofs.Places.{field-lt}
 use Rattle.description.specs.Rows.{width, total, cut, cuts}
 use Rattle.description.specs.Fields.{table16, table16b, punctPat, pipeWidth, numSts1, numDisperserSections1, tailWidth}
 use Rattle.description.specs.Description.{ownStreams, ownSections, tailOwns}
 use Rattle.description.proofs.Each.{total-take}
 use Rattle.description.proofs.Rows.{offset, cuts-length, cut-row}
 use Rattle.description.proofs.Places.{row-field, row-at-place}
-use Rattle.description.proofs.Bounds.{own-bounds, tail-bound}
+use Rattle.description.proofs.Bounds.{own-bounds}
 
 -- the record of a payload pipe at a place
 abbrev pub pipeAt : List ℕ → ℕ → List ℕ

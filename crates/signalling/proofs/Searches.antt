@@ -1,23 +1,22 @@
 -- The searches behind refusals 9, 10 and 11: one step of each.
 -- Assumes nothing.
-use Prim.Native.Nat.{ℕ, zero, suc, _+_, _-_, _*_, _%_, _≤_, _<_}
+use Prim.Native.Nat.{ℕ, _+_, _-_, _*_, _%_, _≤_, _<_}
 use mathlib.Core.Path.{_≡_, refl, sym, ap, ap₂, _∙_, subst}
 use mathlib.Core.Bool.{Bool, false, not}
 use mathlib.Core.List.{List, [], _∷_}
 use native.Mathlib.Nat.{mul-add, add-assoc}
 use native.Mathlib.Numerals.{add-one}
-use native.Mathlib.Omega.{arith}
-use lib.Dec.{eqb, ltb}
+use lib.Dec.{eqb}
 use lib.ListN.{length, getD, take, drop, drop-of-length-le}
 use lib.Seq.{drop-cons, drop-drop}
 use borrow.Author.Tests.{lt-ltb, le-ltb}
-use Rattle.ground.specs.Choice.{both, either, any, Fault, refuse, firstOf}
+use Rattle.ground.specs.Choice.{both, either, Fault, refuse, firstOf}
 use Rattle.ground.proofs.Choice.{both-first}
 use Rattle.bits.specs.Lists.{unpack}
 use Rattle.bits.specs.Places.{fieldAt, fieldsAt}
 use Rattle.bits.proofs.Places.{fields-length, fields-get, fields-part}
 use Rattle.patterns.specs.Rates.{unitsOf}
-use Rattle.description.specs.Rows.{total, cut, cuts}
+use Rattle.description.specs.Rows.{total, cuts}
 use Rattle.description.specs.Fields.{table16, punctPat, pipeWidth}
 use Rattle.description.specs.Description.{ownSections}
 use Rattle.description.specs.Tests.{widthWrong, tapsOf, tapsWrong, tapFault, member, idFault}

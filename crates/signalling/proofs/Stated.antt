@@ -1,8 +1,8 @@
 -- What the tests of a sheet read, where its header is right, is what stands in its lists.
 -- Assumes nothing.
 use Prim.Native.Nat.{ℕ, _+_, _*_, _≤_, _<_}
-use mathlib.Core.Path.{_≡_, refl, sym, ap, ap₂, _∙_, subst}
-use mathlib.Core.Bool.{Bool, true, false, not}
+use mathlib.Core.Path.{_≡_, refl, sym, ap, ap₂, _∙_}
+use mathlib.Core.Bool.{true, false, not}
 use mathlib.Core.List.{List, [], _∷_, map}
 use native.Mathlib.Nat.{add-zero}
 use native.Mathlib.Omega.{arith}
@@ -16,7 +16,6 @@ use Rattle.bits.specs.Places.{fieldAt, fieldsAt}
 use Rattle.description.specs.Rows.{width, total, cut, cuts}
 use Rattle.description.specs.Fields.{table15, table16, table16b, table18, table19, sigPipeVer, numPipes1, stsId, numTapsDiv2}
 use Rattle.description.specs.Description.{ownStreams, ownSections, tailOwns, streamCount, sectionCount}
-use Rattle.description.specs.Rules.{size}
 use Rattle.description.specs.Sheet.{sectionsFrom, streamsFrom, sheetEnd}
 use Rattle.description.specs.Tests.{widthFault, tapFault, idFault}
 use Rattle.description.specs.Form1.{bare, sheetSections, sheetLists, countFault}

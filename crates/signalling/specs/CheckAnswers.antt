@@ -1,6 +1,6 @@
 -- Document 01's number, and the values that go with it, for each case of what the check of a sheet gives.
 -- Assumes nothing.
-use mathlib.Core.List.{List, [], _∷_}
+use mathlib.Core.List.{[], _∷_}
 use Rattle.ground.specs.Outcome.{Told}
 use Rattle.signalling.specs.declared.Checking.{Checking}
 use Rattle.signalling.specs.declared.Checking.the-variants.{Accepted, Refused}

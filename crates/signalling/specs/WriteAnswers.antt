@@ -1,6 +1,6 @@
 -- Document 01's number for each case of what writing a word gives.
 -- Assumes nothing.
-use mathlib.Core.List.{List, [], _∷_}
+use mathlib.Core.List.{[], _∷_}
 use Rattle.ground.specs.Outcome.{Told}
 use Rattle.signalling.specs.declared.Writing.{Writing}
 use Rattle.signalling.specs.declared.Writing.the-variants.{Accepted, Refused}

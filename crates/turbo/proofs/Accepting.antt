@@ -8,10 +8,9 @@ use mathlib.Core.List.{List}
 use native.Mathlib.Omega.{arith}
 use lib.Dec.{ltb}
 use lib.ListN.{length, getD}
-use borrow.Author.Tests.{eq-eqb, ne-eqb}
 use Rattle.ground.specs.Choice.{choose}
 use Rattle.ground.specs.Outcome.{Is}
-use Rattle.ground.proofs.Choice.{choose-true, choose-false, no-difference, all-clear}
+use Rattle.ground.proofs.Choice.{no-difference, all-clear}
 use Rattle.ground.proofs.Refusing.{refusal-leaves, acceptance-leaves}
 use Rattle.bits.specs.Lists.{bits, num, Below}
 use Rattle.bits.specs.Places.{bitAt, packed}

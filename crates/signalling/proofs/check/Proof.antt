@@ -1,6 +1,6 @@
 -- `signalling::check` meets its contract. Assumes nothing.
 use mathlib.Core.Path.{_≡_, sym, _∙_}
-use mathlib.Core.Bool.{Bool, true, false}
+use mathlib.Core.Bool.{false}
 use native.Mathlib.Omega.{arith}
 use Rattle.description.specs.Form1.{headerFault}
 use Rattle.description.proofs.Restated.{right-header}

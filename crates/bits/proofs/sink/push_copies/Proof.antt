@@ -1,14 +1,12 @@
 -- `bits::sink::push_copies` meets its contract. Assumes nothing.
 use Prim.Native.Nat.{ℕ, _-_, _≤_}
-use mathlib.Core.Path.{_≡_, refl, sym, ap, _∙_, subst}
-use mathlib.Core.List.{List}
+use mathlib.Core.Path.{_≡_, refl, ap, _∙_, subst}
 use native.Mathlib.Nat.{le-antisymm}
 use native.Mathlib.Omega.{arith}
 use borrow.Author.Needs.{needs}
 use lib.ListN.{length}
 use Rattle.ground.specs.Outcome.{Is}
 use Rattle.bits.specs.Sink.{pushedCopies}
-use Rattle.bits.specs.declared.sink.Sink.{Sink}
 use Rattle.bits.proofs.Pushes.{copies-more, copies-length}
 use Rattle.bits.proofs.sink.push_copies.Statement.{statement}
 use Rattle.bits.proofs.sink.push_copies.Tie as tie

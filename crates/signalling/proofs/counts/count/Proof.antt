@@ -1,8 +1,8 @@
 -- `signalling::counts::count` meets its contract: after i records the sums are those of the first i. Assumes nothing.
 use Prim.Native.Nat.{ℕ, _+_, _-_, _*_, _≤_, _<_}
-use mathlib.Core.Path.{_≡_, refl, sym, ap, ap₂, _∙_}
+use mathlib.Core.Path.{_≡_, ap, _∙_}
 use native.Mathlib.Omega.{arith}
-use lib.ListN.{length, getD, take, drop}
+use lib.ListN.{take, drop}
 use Rattle.bits.specs.Lists.{unpack}
 use borrow.Author.Needs.{needs}
 use Rattle.description.specs.Rows.{total, cuts}

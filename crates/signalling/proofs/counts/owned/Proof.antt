@@ -1,9 +1,7 @@
 -- `signalling::counts::owned` meets its contract. Assumes nothing.
 use Prim.Native.Nat.{ℕ, _+_, _-_, _*_, _≤_, _<_}
-use mathlib.Core.Path.{_≡_, refl, sym, ap, ap₂, _∙_}
+use mathlib.Core.Path.{_≡_, sym, ap, _∙_}
 use native.Mathlib.Omega.{arith}
-use lib.ListN.{length, getD, take, drop}
-use Rattle.bits.specs.Lists.{unpack}
 use Rattle.description.specs.Description.{ownStreams, ownSections}
 use Rattle.signalling.proofs.Records.{pipeAt, width-at, streams-at, sections-at, own-none, own-some, pipe-bounds}
 use borrow.Author.Needs.{needs}

@@ -1,8 +1,7 @@
 -- `signalling::counts::tail_owned` meets its contract. Assumes nothing.
 use Prim.Native.Nat.{ℕ, _+_, _-_, _*_, _≤_, _<_}
-use mathlib.Core.Path.{_≡_, refl, sym, ap, ap₂, _∙_}
-use native.Mathlib.Omega.{arith}
-use lib.ListN.{length, getD, take, drop}
+use mathlib.Core.Path.{_≡_, sym, _∙_}
+use lib.ListN.{drop}
 use Rattle.bits.specs.Lists.{unpack}
 use Rattle.description.specs.Rows.{cut}
 use Rattle.description.specs.Fields.{table16b}

@@ -1,16 +1,14 @@
 -- `signalling::faults::any_taps_wrong` meets its contract: the sections of the pipe i stand behind those of the pipes before it. Assumes nothing.
 use Prim.Native.Nat.{ℕ, _+_, _-_, _*_, _%_, _≤_, _<_}
 use mathlib.Core.Path.{_≡_, refl, sym, ap, ap₂, _∙_}
-use mathlib.Core.Bool.{Bool, true, false, not}
+use mathlib.Core.Bool.{Bool}
 use mathlib.Core.List.{List, [], _∷_}
 use native.Mathlib.Omega.{arith}
 use native.Mathlib.Nat.{mul-le-mul}
-use borrow.Author.Tests.{eq-eqb, ne-eqb}
-use lib.Dec.{eqb}
-use lib.ListN.{length, getD, take, drop}
-use Rattle.ground.specs.Choice.{both, either, any}
+use lib.ListN.{take, drop}
+use Rattle.ground.specs.Choice.{either}
 use Rattle.bits.specs.Lists.{unpack}
-use Rattle.bits.specs.Places.{fieldAt, fieldsAt}
+use Rattle.bits.specs.Places.{fieldsAt}
 use borrow.Author.Needs.{needs}
 use native.Mathlib.Nat.{mul-zero}
 use lib.ListN.{drop-of-length-le}

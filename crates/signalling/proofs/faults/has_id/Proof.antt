@@ -1,16 +1,13 @@
 -- `signalling::faults::has_id` meets its contract. Assumes nothing.
 use Prim.Native.Nat.{ℕ, _+_, _-_, _*_, _%_, _≤_, _<_}
-use mathlib.Core.Path.{_≡_, refl, sym, ap, ap₂, _∙_}
-use mathlib.Core.Bool.{Bool, true, false, not}
-use mathlib.Core.List.{List, [], _∷_}
+use mathlib.Core.Path.{_≡_, refl, sym, _∙_}
+use mathlib.Core.List.{[], _∷_}
 use native.Mathlib.Omega.{arith}
-use native.Mathlib.Nat.{mul-le-mul}
 use borrow.Author.Tests.{eq-eqb, ne-eqb}
 use lib.Dec.{eqb}
-use lib.ListN.{length, getD, take, drop}
-use Rattle.ground.specs.Choice.{both, either, any}
-use Rattle.bits.specs.Lists.{unpack}
-use Rattle.bits.specs.Places.{fieldAt, fieldsAt}
+use lib.ListN.{getD, drop}
+use Rattle.ground.specs.Choice.{any}
+use Rattle.bits.specs.Places.{fieldsAt}
 use borrow.Author.Needs.{needs}
 use Rattle.ground.proofs.Choice.{any-found, any-more, any-done}
 use Rattle.bits.proofs.Places.{fields-length, fields-get}

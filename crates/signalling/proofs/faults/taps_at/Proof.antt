@@ -1,15 +1,10 @@
 -- `signalling::faults::taps_at` meets its contract: after k sections the sum is that of the first k. Assumes nothing.
 use Prim.Native.Nat.{ℕ, _+_, _-_, _*_, _%_, _≤_, _<_}
-use mathlib.Core.Path.{_≡_, refl, sym, ap, ap₂, _∙_}
-use mathlib.Core.Bool.{Bool, true, false, not}
-use mathlib.Core.List.{List, [], _∷_}
+use mathlib.Core.Path.{_≡_, ap, _∙_}
+use mathlib.Core.List.{[], _∷_}
 use native.Mathlib.Omega.{arith}
 use native.Mathlib.Nat.{mul-le-mul}
-use borrow.Author.Tests.{eq-eqb, ne-eqb}
-use lib.Dec.{eqb}
-use lib.ListN.{length, getD, take, drop}
-use Rattle.ground.specs.Choice.{both, either, any}
-use Rattle.bits.specs.Lists.{unpack}
+use lib.ListN.{take}
 use Rattle.bits.specs.Places.{fieldAt, fieldsAt}
 use borrow.Author.Needs.{needs}
 use lib.Seq.{take-all}

@@ -1,16 +1,12 @@
 -- `signalling::faults::taps_wrong` meets its contract. Assumes nothing.
 use Prim.Native.Nat.{ℕ, _+_, _-_, _*_, _%_, _≤_, _<_}
-use mathlib.Core.Path.{_≡_, refl, sym, ap, ap₂, _∙_}
-use mathlib.Core.Bool.{Bool, true, false, not}
-use mathlib.Core.List.{List, [], _∷_}
-use native.Mathlib.Omega.{arith}
-use native.Mathlib.Nat.{mul-le-mul}
+use mathlib.Core.Path.{_≡_, sym, ap, _∙_}
+use mathlib.Core.Bool.{Bool, not}
+use mathlib.Core.List.{[], _∷_}
 use borrow.Author.Tests.{eq-eqb, ne-eqb}
 use lib.Dec.{eqb}
-use lib.ListN.{length, getD, take, drop}
-use Rattle.ground.specs.Choice.{both, either, any}
-use Rattle.bits.specs.Lists.{unpack}
-use Rattle.bits.specs.Places.{fieldAt, fieldsAt}
+use Rattle.ground.specs.Choice.{both}
+use Rattle.bits.specs.Places.{fieldsAt}
 use Rattle.ground.proofs.Choice.{both-first}
 use Rattle.description.specs.Rows.{total}
 use Rattle.description.specs.Fields.{pipeWidth}

@@ -1,7 +1,7 @@
 -- `signalling::form1::judge` meets its contract: at each answer the tests before it have found nothing. Assumes nothing.
 use Prim.Native.Nat.{ℕ, _+_, _*_, _≤_, _<_}
 use mathlib.Core.Path.{_≡_, sym, _∙_, subst}
-use mathlib.Core.Bool.{Bool, true, false}
+use mathlib.Core.Bool.{false}
 use native.Mathlib.Omega.{arith}
 use Rattle.description.specs.Rules.{size}
 use Rattle.description.specs.Tests.{versionFault}

@@ -1,10 +1,9 @@
 -- `signalling::walk::any_set` meets its contract: what is asked of the whole is asked of what is left. Assumes nothing.
 use Prim.Native.Nat.{ℕ, _+_, _-_, _*_, _≤_, _<_}
-use mathlib.Core.Path.{_≡_, refl, sym, ap, ap₂, _∙_}
-use native.Mathlib.Omega.{arith}
-use lib.ListN.{length, getD, take, drop}
+use mathlib.Core.Path.{_≡_, refl, sym, ap, _∙_}
+use lib.ListN.{take, drop}
 use Rattle.bits.specs.Lists.{unpack}
-use mathlib.Core.Bool.{Bool, true, false, not}
+use mathlib.Core.Bool.{not}
 use borrow.Author.Tests.{eq-eqb, ne-eqb}
 use Rattle.signalling.proofs.Walks.{set-at, bits-long, bits-done}
 use borrow.Author.Needs.{needs}
