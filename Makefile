@@ -21,12 +21,14 @@ sources := crates.txt $(shell find crates -name must-fail -prune -o \( -type d -
 
 # how long `make soak` fuzzes
 seconds := 60
+# whether `make bench` counts instructions instead of measuring times; any word but an empty one is yes
+counts :=
 
 # what each target needs installed, besides make and a shell
 tools-demo := rt gcc
 tools-test := rt gcc cargo
 tools-lib := rt
-tools-bench := rt gcc cargo
+tools-bench := rt gcc cargo $(if $(counts),valgrind)
 tools-soak := rt gcc cargo valgrind
 # what cargo is run with so that compare/ links $(native); apart from what it builds for the tests
 natively := OPL_ARCHIVE=$(native) CARGO_TARGET_DIR=target/native
@@ -40,7 +42,7 @@ need = $(if $(call missing,$(tools-$1)),$(error make $1 needs what is not instal
 help:
 	@echo 'make demo    build the library and the C head-end of examples/, and play a frame of a sheet'
 	@echo 'make test    prove everything, then test the library that was proved'
-	@echo 'make bench   compare speed with the second implementation'
+	@echo 'make bench   compare the speed of each function with the second implementation (counts=1: count instructions)'
 	@echo 'make soak    fuzz the library for a minute (seconds=N for longer), then look for memory faults'
 	@echo 'make lib     build the library, $(archive)'
 	@echo 'make install, make uninstall'
@@ -59,7 +61,7 @@ test: need-test
 	@bash tools/test.sh
 
 bench: need-bench $(native)
-	@cd compare && $(natively) cargo run --release --offline --locked --quiet --bin bench
+	@cd compare && $(natively) cargo run --release --offline --locked --quiet --bin bench $(if $(counts),-- counts)
 
 soak: need-soak $(archive) $(native) $(listing)
 	@bash tools/soak.sh $(seconds) $(native)

@@ -18,8 +18,9 @@
  *     write.
  *
  * The library keeps no state, allocates nothing and reads and writes no file, so calls on different
- * buffers may run at the same time. opl_encode takes about 50,000 bytes of the caller's stack, each other
- * function 2,000 at most (measured, not proved). Of the C library the archive calls memcpy and memset alone.
+ * buffers may run at the same time. Of the caller's stack opl_encode takes at most OPL_ENCODE_STACK bytes,
+ * each other function at most OPL_OTHER_STACK (measured, not proved). Of the C library the archive calls
+ * memcpy and memset alone.
  *
  * Bits are packed with the first bit in the top bit of the first byte; numbers have their most
  * significant bit first (annex A of the standard).
@@ -33,6 +34,14 @@
 #ifdef __cplusplus
 extern "C" {
 #endif
+
+/*
+ * The most bytes of the caller's stack that opl_encode takes, and that each other function takes, with what
+ * it calls. A test measures both (compare/tests/stack.rs) and fails where a call takes more. Not counted is
+ * what a dynamic linker takes, some 3,000 bytes, when memcpy or memset is called for the first time.
+ */
+#define OPL_ENCODE_STACK 50000
+#define OPL_OTHER_STACK 2000
 
 /* The refusal numbers. Names such as Sig_Pipe_Ver are the standard's. */
 enum opl_refusal {

@@ -1,10 +1,8 @@
 //! The functions of include/opl.h, each as a safe function that lends guarded copies of its slices,
 //! checks them after the call, and gives the refusal number back.
 
-pub use crate::call::BRIDGED;
 use crate::call::{call, Memory};
 use crate::lent::{Element, Lent};
-use std::time::{Duration, Instant};
 
 /// Writes the preamble to `out`.
 #[track_caller]
@@ -48,18 +46,6 @@ pub fn encode(pattern: u32, infoword: &[u8], codeword: &mut [u8]) -> u8 {
     lend(infoword, codeword, |lent| {
         call("opl_encode", &[pattern], lent)
     })
-}
-
-/// As [`encode`], and how long the call alone took.
-pub fn timed_encode(pattern: u32, infoword: &[u8], codeword: &mut [u8]) -> (u8, Duration) {
-    let mut took = Duration::ZERO;
-    let refusal = lend(infoword, codeword, |lent| {
-        let start = Instant::now();
-        let refusal = call("opl_encode", &[pattern], lent);
-        took = start.elapsed();
-        refusal
-    });
-    (refusal, took)
 }
 
 /// Places received values in a lane.

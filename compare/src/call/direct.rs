@@ -4,10 +4,10 @@
 use super::Memory;
 
 extern "C" {
-    fn opl_preamble(out: *mut u8, n: usize) -> u8;
-    fn opl_signalling_read(word: *const u8, n: usize, sheet: *mut u8, room: usize) -> u8;
-    fn opl_signalling_write(sheet: *const u8, n: usize, word: *mut u8, m: usize) -> u8;
-    fn opl_payload_write(
+    pub fn opl_preamble(out: *mut u8, n: usize) -> u8;
+    pub fn opl_signalling_read(word: *const u8, n: usize, sheet: *mut u8, room: usize) -> u8;
+    pub fn opl_signalling_write(sheet: *const u8, n: usize, word: *mut u8, m: usize) -> u8;
+    pub fn opl_payload_write(
         r#type: u32,
         id: u8,
         payload: *const u8,
@@ -15,9 +15,15 @@ extern "C" {
         word: *mut u8,
         m: usize,
     ) -> u8;
-    fn opl_payload_read(word: *const u8, n: usize, header: *mut u8, m: usize) -> u8;
-    fn opl_encode(pattern: u32, infoword: *const u8, n: usize, codeword: *mut u8, m: usize) -> u8;
-    fn opl_place(pattern: u32, values: *const i8, n: usize, lane: *mut i16, m: usize) -> u8;
+    pub fn opl_payload_read(word: *const u8, n: usize, header: *mut u8, m: usize) -> u8;
+    pub fn opl_encode(
+        pattern: u32,
+        infoword: *const u8,
+        n: usize,
+        codeword: *mut u8,
+        m: usize,
+    ) -> u8;
+    pub fn opl_place(pattern: u32, values: *const i8, n: usize, lane: *mut i16, m: usize) -> u8;
 }
 
 pub fn call(name: &str, numbers: &[u32], lent: &mut [&mut dyn Memory]) -> u8 {

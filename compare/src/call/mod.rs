@@ -4,15 +4,12 @@
 #[cfg(bridged)]
 mod bridge;
 #[cfg(not(bridged))]
-mod direct;
+pub mod direct;
 
 #[cfg(bridged)]
 pub use bridge::call;
 #[cfg(not(bridged))]
 pub use direct::call;
-
-/// Whether calls go through bridge.c, and so through an emulator and a pipe.
-pub const BRIDGED: bool = cfg!(bridged);
 
 /// Memory with a part in it that is lent.
 pub trait Memory {

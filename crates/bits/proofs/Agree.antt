@@ -16,12 +16,9 @@ use Rattle.bits.proofs.bit_from.Reads as bit-from-reads
 use Rattle.bits.proofs.field as field
 use Rattle.bits.proofs.field.Kinds as field-kinds
 use Rattle.bits.proofs.field.Reads as field-reads
-use Rattle.bits.proofs.sink.push as push
-use Rattle.bits.proofs.sink.push.Kinds as push-kinds
-use Rattle.bits.proofs.sink.push.Reads as push-reads
-use Rattle.bits.proofs.sink.push_copies as push-copies
-use Rattle.bits.proofs.sink.push_copies.Kinds as push-copies-kinds
-use Rattle.bits.proofs.sink.push_copies.Reads as push-copies-reads
+use Rattle.bits.proofs.wide.put as put
+use Rattle.bits.proofs.wide.put.Kinds as put-kinds
+use Rattle.bits.proofs.wide.put.Reads as put-reads
 
 module _ (κs : Lfts 1) (a : ArgsD bit.signature κs) where
   pub bit-agrees : (r r′ : ResD bit.signature κs) (s s′ : AtExit (endedOf 1 bit-kinds.ps bit-kinds.r) κs) →
@@ -38,12 +35,7 @@ module _ (κs : Lfts 1) (a : ArgsD field.signature κs) where
       field-reads.Post κs a r s → field-reads.Post κs a r′ s′ → r ≡ r′
   field-agrees r r′ s s′ p q = same p q
 
-module _ (κs : Lfts 1) (a : ArgsD push.signature κs) where
-  pub push-agrees : (r r′ : ResD push.signature κs) (s s′ : AtExit (endedOf 1 push-kinds.ps push-kinds.r) κs) →
-      push-reads.Post κs a r s → push-reads.Post κs a r′ s′ → (r ≡ r′) × (now (s .0) ≡ now (s′ .0))
-  push-agrees r r′ s s′ p q = agree p q
-
-module _ (κs : Lfts 1) (a : ArgsD push-copies.signature κs) where
-  pub push-copies-agrees : (r r′ : ResD push-copies.signature κs) (s s′ : AtExit (endedOf 1 push-copies-kinds.ps push-copies-kinds.r) κs) →
-      push-copies-reads.Post κs a r s → push-copies-reads.Post κs a r′ s′ → (r ≡ r′) × (now (s .0) ≡ now (s′ .0))
-  push-copies-agrees r r′ s s′ p q = agree p q
+module _ (κs : Lfts 1) (a : ArgsD put.signature κs) where
+  pub put-agrees : (r r′ : ResD put.signature κs) (s s′ : AtExit (endedOf 1 put-kinds.ps put-kinds.r) κs) →
+      put-reads.Post κs a r s → put-reads.Post κs a r′ s′ → (r ≡ r′) × (now (s .0) ≡ now (s′ .0))
+  put-agrees r r′ s s′ p q = agree p q

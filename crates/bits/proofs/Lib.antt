@@ -4,5 +4,6 @@ pub mod Places
 pub mod Joined
 pub mod Numbers
 pub mod Stores
-pub mod Pushes
+pub mod Widens
+pub mod Sums
 pub mod Agree

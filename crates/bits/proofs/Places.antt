@@ -3,11 +3,11 @@
 use Prim.Native.Nat.{ℕ, zero, suc, _+_, _-_, _*_, _/_, _%_, _^_, _≤_, _<_}
 use mathlib.Core.Path.{_≡_, refl, sym, ap, ap₂, _∙_, subst}
 use mathlib.Core.List.{List}
-use native.Mathlib.Nat.{pow-suc, zero-add, add-assoc, mul-add}
+use native.Mathlib.Nat.{pow-suc, zero-add, add-zero, add-suc, add-assoc, mul-add, mul-assoc}
 use native.Mathlib.Numerals.{add-one}
 use native.Mathlib.Omega.{arith}
 use lib.ListN.{length, getD, take, drop}
-use lib.Pow.{pow-pos}
+use lib.Pow.{pow-pos, high}
 use borrow.Author.Tests.{le-ltb}
 use Rattle.ground.specs.Table.{tab}
 use Rattle.ground.proofs.Choice.{choose-false}
@@ -33,6 +33,29 @@ pub number-cong : (f g : ℕ → ℕ) (i n : ℕ) → ((k : ℕ) → k < n → f
 unfolding number
 number-cong f g i zero h = refl
 number-cong f g i (suc n) h = ap₂ (λ (x y : ℕ). x * 2 + y) (number-cong f g i n (λ k p. h k (omega arith))) (h n (omega arith))
+
+-- the number of a run depends on its bits, wherever they stand
+pub number-move : (f g : ℕ → ℕ) (i j n : ℕ) → ((k : ℕ) → k < n → f (i + k) ≡ g (j + k)) → number f i n ≡ number g j n
+unfolding number
+number-move f g i j zero h = refl
+number-move f g i j (suc n) h = ap₂ (λ (x y : ℕ). x * 2 + y) (number-move f g i j n (λ k p. h k (omega arith))) (h n (omega arith))
+
+-- the bits of two runs, one behind the other
+pub number-append : (f : ℕ → ℕ) (i m n : ℕ) → number f i (m + n) ≡ number f i m * 2 ^ n + number f (i + m) n
+unfolding number
+number-append f i m zero = ap (number f i) (add-zero m) ∙ omega arith
+number-append f i m (suc n) =
+    let e : number f i (m + suc n) ≡ number f i (m + n) * 2 + f (i + (m + n)) = ap (number f i) (add-suc m n) in
+    let a : f (i + (m + n)) ≡ f (i + m + n) = ap f (sym (add-assoc i m n)) in
+    let p : 2 ^ suc n ≡ 2 ^ n * 2 = pow-suc 2 n in
+    let q : number f i m * 2 ^ suc n ≡ number f i m * 2 ^ n * 2 = ap (λ (x : ℕ). number f i m * x) p ∙ sym (mul-assoc (number f i m) (2 ^ n) 2) in
+    omega (arith, e, a, q, number-append f i m n)
+
+-- a bit of a running number
+pub number-bit : (f : ℕ → ℕ) → ((k : ℕ) → f k < 2) → (i b r : ℕ) → number f i (b + 1 + r) / 2 ^ r % 2 ≡ f (i + b)
+number-bit f bit i b r =
+    ap (λ (x : ℕ). x / 2 ^ r % 2) (number-append f i (b + 1) r) ∙ ap (λ (x : ℕ). x % 2) (high (number f i (b + 1)) r (number-lt f bit (i + (b + 1)) r))
+    ∙ omega (arith, number-more f i b, bit (i + b))
 
 pub packed-length : (f : ℕ → ℕ) (n : ℕ) → length (packed f n) ≡ n
 unfolding packed

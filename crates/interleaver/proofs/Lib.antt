@@ -1,5 +1,11 @@
-pub mod Addresses
 pub mod Kept
 pub mod Inverse
 pub mod Once
+pub mod Rows
+pub mod Spreading
+pub mod Coupling
+pub mod Columns
+pub mod Gathering
+pub mod Sinking
+pub mod Reading
 pub mod Agree

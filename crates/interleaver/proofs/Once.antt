@@ -10,17 +10,17 @@ use native.Mathlib.Numerals.{add-one}
 use native.Mathlib.Decide.{decLt}
 use native.Mathlib.Omega.{arith}
 use lib.Dec.{ltb, lit≤}
-use lib.ListN.{length, getD, take, replicate, length-append, length-replicate, List·getD-append}
-use lib.Seq.{getD-append-seam, take-at}
+use lib.ListN.{length, getD, List·getD-append}
+use lib.Seq.{getD-append-seam}
 use borrow.Author.Tests.{lt-ltb}
-use Rattle.interleaver.specs.Order.{parameter, address, keepIf, kept, order, padded, orderTable}
+use Rattle.interleaver.specs.Order.{parameter, address, keepIf, kept, order}
 use Rattle.interleaver.specs.Once.{Block, Once, Permutes}
 use Rattle.interleaver.proofs.Kept.{count, length-kept, count-mono, count-keep, count-drop, count-le, count9, count5}
 use Rattle.interleaver.proofs.Inverse.{counter, Inverts, inverts9, inverts5}
 
 module _ (f : ℕ → ℕ) (N : ℕ) where
   -- the address of a counter value stands behind those kept before it
-  kept-at : (c d : ℕ) → c < d → f c < N → getD (kept f N d) (count f N c) 0 ≡ f c
+  pub kept-at : (c d : ℕ) → c < d → f c < N → getD (kept f N d) (count f N c) 0 ≡ f c
   unfolding kept
   kept-at c zero h k = absurd (not-suc-le-zero h)
   kept-at c (suc d) h k =
@@ -98,14 +98,3 @@ order-permutes N =
     ⊎-elim
     (λ e. subst (λ (M : ℕ). Permutes M (order M)) (sym e) (permutes 9 12282 16384 refl (lit≤ tt) count9 inverts9))
     (λ e. subst (λ (M : ℕ). Permutes M (order M)) (sym e) (permutes 5 762 1024 refl (lit≤ tt) count5 inverts5))
-
--- the table begins with the order
-pub table-order : (N : ℕ) → Block N → take N (orderTable N) ≡ order N
-unfolding orderTable padded
-table-order N b = take-at (order N) (replicate (12282 - length (order N)) 0) N (order-permutes N b .size)
-
-pub table-length : (N : ℕ) → Block N → length (orderTable N) ≡ 12282
-unfolding orderTable padded
-table-length N b =
-    length-append (order N) (replicate (12282 - length (order N)) 0) ∙ ap (λ (m : ℕ). length (order N) + m) (length-replicate {A = ℕ} (12282 - length (order N)) 0)
-    ∙ ⊎-elim (λ e. omega (arith, order-permutes N b .size)) (λ e. omega (arith, order-permutes N b .size)) b

@@ -1,2 +1,5 @@
 pub mod Order
 pub mod Once
+pub mod Rows
+pub mod Read
+pub mod Inside

@@ -98,9 +98,12 @@ pub fn entries(pattern: usize) -> [u16; 18]
     if 27 < pattern {
         return t;
     }
+    // not in the loop: a table is laid out anew wherever it is named
+    let row = DATA[pattern];
+    let tail = TAIL[pattern];
     let mut j = 0;
     while j < 18 {
-        t[j] = entry_from(DATA[pattern], TAIL[pattern], j);
+        t[j] = entry_from(row, tail, j);
         j += 1;
     }
     t

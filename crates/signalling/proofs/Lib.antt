@@ -1,6 +1,7 @@
 pub mod Records
 pub mod Walks
 pub mod Searches
+pub mod Seen
 pub mod Surveys
 pub mod Copies
 pub mod Fill

@@ -1,13 +1,13 @@
--- The searches behind refusals 9, 10 and 11: one step of each.
+-- The searches behind refusals 9 and 10, one step of each, and the order of the three.
 -- Assumes nothing.
-use Prim.Native.Nat.{ℕ, _+_, _-_, _*_, _%_, _≤_, _<_}
+use Prim.Native.Nat.{ℕ, _+_, _*_, _%_, _≤_, _<_}
 use mathlib.Core.Path.{_≡_, refl, sym, ap, ap₂, _∙_, subst}
 use mathlib.Core.Bool.{Bool, false, not}
 use mathlib.Core.List.{List, [], _∷_}
 use native.Mathlib.Nat.{mul-add, add-assoc}
 use native.Mathlib.Numerals.{add-one}
 use lib.Dec.{eqb}
-use lib.ListN.{length, getD, take, drop, drop-of-length-le}
+use lib.ListN.{length, take, drop}
 use lib.Seq.{drop-cons, drop-drop}
 use borrow.Author.Tests.{lt-ltb, le-ltb}
 use Rattle.ground.specs.Choice.{both, either, Fault, refuse, firstOf}
@@ -19,7 +19,7 @@ use Rattle.patterns.specs.Rates.{unitsOf}
 use Rattle.description.specs.Rows.{total, cuts}
 use Rattle.description.specs.Fields.{table16, punctPat, pipeWidth}
 use Rattle.description.specs.Description.{ownSections}
-use Rattle.description.specs.Tests.{widthWrong, tapsOf, tapsWrong, tapFault, member, idFault}
+use Rattle.description.specs.Tests.{widthWrong, tapsOf, tapsWrong, tapFault}
 use Rattle.description.proofs.Each.{total-take, total-le}
 use Rattle.description.proofs.Rows.{cuts-length}
 use Rattle.signalling.proofs.Records.{pipeAt, pipe-is, total-more}
@@ -92,17 +92,6 @@ module _ (w : List ℕ) (at p sections step i : ℕ) (more : i < p) where
   place-next from e =
       ap (λ (x : ℕ). x + step * ownSections f) e ∙ add-assoc sections (step * done) (step * ownSections f)
       ∙ ap (λ (x : ℕ). sections + x) (sym (mul-add step done (ownSections f)) ∙ ap (λ (x : ℕ). step * x) next)
-
--- ---- 11
-pub ids-step : (l : List ℕ) (i : ℕ) (whole : Bool) → i < length l → whole ≡ idFault (drop i l)
-    → whole ≡ either (member (getD l i 0) (drop (i + 1) l)) (idFault (drop (i + 1) l))
-unfolding idFault
-ids-step l i whole h e =
-    e ∙ ap idFault (drop-cons l i 0 h) ∙ ap (λ (k : ℕ). either (member (getD l i 0) (drop k l)) (idFault (drop k l))) (sym (add-one i))
-
-pub ids-done : (l : List ℕ) (i : ℕ) (whole : Bool) → length l ≤ i → whole ≡ idFault (drop i l) → whole ≡ false
-unfolding idFault
-ids-done l i whole h e = e ∙ ap idFault (drop-of-length-le l h)
 
 -- ---- the three in their order
 abbrev pub judgements : Bool → Bool → Bool → List Fault

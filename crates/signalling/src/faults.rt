@@ -9,7 +9,7 @@ ghost use Rattle.bits.specs.Places.{fieldsAt};
 ghost use Rattle.description.specs.Rows.{cut, cuts, total};
 ghost use Rattle.description.specs.Fields.{table16};
 ghost use Rattle.description.specs.Description.{ownSections};
-ghost use Rattle.description.specs.Tests.{tapsOf, widthWrong, widthFault, tapsWrong, tapFault, member, idFault};
+ghost use Rattle.description.specs.Tests.{tapsOf, widthWrong, widthFault, tapsWrong, tapFault, idFault};
 
 // Whether the payload pipe whose record stands at a place has a width that is no multiple of its codeword's.
 fn width_wrong(w: &[u8], at: usize) -> bool
@@ -86,35 +86,21 @@ fn any_taps_wrong(w: &[u8], at: usize, p: usize, sections: usize, step: usize) -
     false
 }
 
-// Whether one of the streams from a number on, of the n at a place, has this id.
-fn has_id(w: &[u8], at: usize, n: usize, from: usize, id: u32) -> bool
-    requires { ⌜ (n ≤ 65535) × (at ≤ 32768) × (from ≤ n) ⌝ }
-    ensures { λ r. ⌜ r ≡ member id (drop from (fieldsAt (now (w .entry)) at 16 8 n)) ⌝ }
-{
-    let mut j = from;
-    while j < n {
-        // STS_ID (table 18)
-        if crate::walk::word_bits(w, at + 16 * j, 8) == id {
-            return true;
-        }
-        j += 1;
-    }
-    false
-}
-
-// 11: whether an id stands twice among the n streams at a place.
+// 11: whether an id stands twice among the n streams at a place. They are gone through from the last to the first, and the ids behind are seen.
 fn id_twice(w: &[u8], at: usize, n: usize) -> bool
     requires { ⌜ (n ≤ 65535) × (at ≤ 32768) ⌝ }
     ensures { λ r. ⌜ r ≡ idFault (fieldsAt (now (w .entry)) at 16 8 n) ⌝ }
 {
-    let mut i: usize = 0;
-    while i < n {
+    let mut seen = [false; 256];
+    let mut i = n;
+    while 0 < i {
+        i -= 1;
         // STS_ID (table 18)
-        let id = crate::walk::word_bits(w, at + 16 * i, 8);
-        if has_id(w, at, n, i + 1, id) {
+        let id = crate::walk::word_bits(w, at + 16 * i, 8) as usize;
+        if seen[id] {
             return true;
         }
-        i += 1;
+        seen[id] = true;
     }
     false
 }

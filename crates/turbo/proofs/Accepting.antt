@@ -1,34 +1,28 @@
 -- What is known of an infoword, a pattern and a codeword that are not refused, and what the codeword then is.
 -- Assumes nothing.
-use Prim.Native.Nat.{ℕ, _+_, _-_, _*_, _/_, _%_, _<_}
+use Prim.Native.Nat.{ℕ, _+_, _*_, _/_}
 use mathlib.Core.Path.{_≡_, refl, sym, ap, ap₂, _∙_}
 use mathlib.Core.Bool.{Bool, true, false}
-use mathlib.Core.Logic.{inl, inr, ⊎-elim}
+use mathlib.Core.Logic.{⊎-elim}
 use mathlib.Core.List.{List}
+use native.Mathlib.Decide.{ℕ-discrete}
 use native.Mathlib.Omega.{arith}
-use lib.Dec.{ltb}
+use lib.Dec.{eqb}
 use lib.ListN.{length, getD}
+use borrow.Author.Tests.{eq-eqb, ne-eqb}
 use Rattle.ground.specs.Choice.{choose}
 use Rattle.ground.specs.Outcome.{Is}
-use Rattle.ground.proofs.Choice.{no-difference, all-clear}
+use Rattle.ground.proofs.Choice.{choose-true, choose-false, no-difference, all-clear}
 use Rattle.ground.proofs.Refusing.{refusal-leaves, acceptance-leaves}
-use Rattle.bits.specs.Lists.{bits, num, Below}
-use Rattle.bits.specs.Places.{bitAt, packed}
-use Rattle.bits.proofs.Lists.{bits-num}
-use Rattle.bits.proofs.Places.{bit-lt}
-use Rattle.bits.proofs.Joined.{bits-at}
+use Rattle.bits.specs.Places.{packed}
 use Rattle.patterns.specs.Rows.{copies}
-use Rattle.patterns.specs.Blocks.{Coded}
-use Rattle.patterns.specs.Sent.{places, spread, total, codeLength}
+use Rattle.patterns.specs.Blocks.{blockBy, Coded}
+use Rattle.patterns.specs.Sent.{places, total, codeLength}
 use Rattle.patterns.proofs.Blocks.{fit-coded, fit-parts, coded-bounds}
 use Rattle.patterns.proofs.Length.{Length, length-rule}
-use Rattle.patterns.proofs.Spread.{spread-cong}
-use Rattle.interleaver.specs.Once.{Block}
-use Rattle.turbo.specs.Constituent.{y0, y1, state, feed, clocked}
-use Rattle.turbo.specs.Lane.{second, dataSymbols, tailSymbols1, tailSymbols2, group, laneBit}
-use Rattle.turbo.specs.declared.constituent.State.{State}
+use Rattle.interleaver.specs.Read.{blockFor}
 use Rattle.turbo.specs.Encode.{blockOf, codeBits, codeword, wordFaults, faults, refusal, encoded}
-use Rattle.turbo.specs.Inside.{symbol, byteBit, Sendable, Grouped}
+use Rattle.turbo.specs.Stream.{codeBit}
 
 -- what is left where nothing is refused
 pub record Accepted (p n bytes : ℕ) : Type 0 where
@@ -46,61 +40,36 @@ accepted p w bytes e =
       size = no-difference bytes (codeLength p n / 8) (c .0);
     }
 
--- a block that is coded is one of the two
-pub coded-block : (p n : ℕ) → Coded p n → Block n
-coded-block p n = ⊎-elim (λ w. inl (w .1)) (λ w. inr (w .1))
+-- the code bits fill the codeword's bytes
+pub fills : (p n : ℕ) (out : List ℕ) → Accepted p n (length out) → total (copies p n) (places n) ≡ 8 * length out
+fills p n out h =
+    let r : Length p n = length-rule p n (h .coded) in
+    r .all ∙ omega (arith, r .bytes, h .size)
 
-module _ (p n : ℕ) (lane out : List ℕ) (h : Accepted p n (length out)) where
-  -- the code bits fill the codeword's bytes
-  fills : total (copies p n) (places n) ≡ 8 * length out
-  fills =
-      let r : Length p n = length-rule p n (h .coded) in
-      r .all ∙ omega (arith, r .bytes, h .size)
-
-  pub sendable : length lane ≡ 12288 → Sendable p n lane out
-  sendable l =
-      let b = coded-bounds p n (h .coded) in
-      record { pattern = b .0; some = b .1; most = b .2; groups = omega (arith, b .2); full = fills }
-
--- each symbol of a group is a bit
-pub group-bits : (w : List ℕ) (n i : ℕ) → Below 2 (group w n i) × (length (group w n i) ≡ 5)
-unfolding group dataSymbols tailSymbols1 tailSymbols2 y0 y1 feed
-group-bits w n i =
-    five (ltb i n) _ _ (periods (state (bitAt w) i) (second w n i) (state (second w n) i) (bit-lt w i))
-    (five (ltb i (n + 3)) _ _ (first (clocked (state (bitAt w) n) (i - n))) (last (clocked (state (second w n) n) (i - (n + 3)))))
+-- a word whose length tells a block has the block's bits and the six spare ones
+pub word-size : (p n len : ℕ) → n ≡ blockBy 1536 96 len → Coded p n → 8 * len ≡ n + 6
+unfolding blockBy
+word-size p n len e c =
+    elim (ℕ-discrete len 1536) [
+      | yes l ↦ omega (arith, e ∙ choose-true 12282 (choose (eqb len 96) 762 0) (eq-eqb len 1536 l))
+      | no l ↦ short l (ℕ-discrete len 96)
+    ]
   where
-    five : (b : Bool) (l m : List ℕ) → Below 2 l × (length l ≡ 5) → Below 2 m × (length m ≡ 5) → Below 2 (choose b l m) × (length (choose b l m) ≡ 5)
-    five true l m x y = x
-    five false l m x y = y
+    short : (len ≡ 1536 → ⊥) → Dec (len ≡ 96) → 8 * len ≡ n + 6
+    short l (yes k) = omega (arith, e ∙ choose-false 12282 (choose (eqb len 96) 762 0) (ne-eqb len 1536 l) ∙ choose-true 762 0 (eq-eqb len 96 k))
+    short l (no k) = absurd (omega (arith, e ∙ choose-false 12282 (choose (eqb len 96) 762 0) (ne-eqb len 1536 l) ∙ choose-false 762 0 (ne-eqb len 96 k), coded-bounds p n c .1))
 
-    periods : (s : State) (v : ℕ) (t : State) → bitAt w i < 2 → Below 2 (dataSymbols (bitAt w i) s v t) × (length (dataSymbols (bitAt w i) s v t) ≡ 5)
-    periods s v t h = ((h, (omega arith, (omega arith, (omega arith, (omega arith, tt))))), refl)
+-- the interleaver's block is the encoder's
+pub same-block : (p n : ℕ) → Coded p n → blockFor n ≡ n
+unfolding blockFor
+same-block p n = ⊎-elim (λ w. choose-true 12282 762 (eq-eqb n 12282 (w .1)) ∙ sym (w .1)) (λ w. choose-false 12282 762 (ne-eqb n 12282 (λ e. omega (arith, w .1))) ∙ sym (w .1))
 
-    first : (s : State) → Below 2 (tailSymbols1 s) × (length (tailSymbols1 s) ≡ 5)
-    first s = ((omega arith, (omega arith, (omega arith, (omega arith, (omega arith, tt))))), refl)
-
-    last : (s : State) → Below 2 (tailSymbols2 s) × (length (tailSymbols2 s) ≡ 5)
-    last s = ((omega arith, (omega arith, (omega arith, (omega arith, (omega arith, tt))))), refl)
-
--- the symbol of a group's byte is that of the group
-symbol-num : (l : List ℕ) (j : ℕ) → Below 2 l × (length l ≡ 5) → j < 5 → symbol (num l) j ≡ getD l j 0
-symbol-num l j h k = sym (bits-at 5 (num l) j k) ∙ ap (λ (x : List ℕ). getD x j 0) (ap (λ (n : ℕ). bits n (num l)) (sym (h .1)) ∙ bits-num l (h .0))
-
--- the code bits of a lane that holds the word's groups
-bits-of : (p n : ℕ) (w lane₀ lane : List ℕ) → Grouped w n lane₀ lane → spread (copies p n) (byteBit lane) (places n) ≡ codeBits p n w
-unfolding codeBits laneBit
-bits-of p n w lane₀ lane g =
-    spread-cong (copies p n) (byteBit lane) (laneBit w n) (places n)
-    (λ k l.
-    ap (λ (x : ℕ). symbol x (k % 5)) (g .groups (k / 5) (omega arith)) ∙ symbol-num (group w n (k / 5)) (k % 5) (group-bits w n (k / 5)) (omega arith))
-
--- what was sent of such a lane is the codeword
-pub wrote : (p n : ℕ) (w lane₀ lane out out' : List ℕ) → n ≡ blockOf w → refusal p w (length out) ≡ 0 → Grouped w n lane₀ lane
-    → out' ≡ packed (λ k. getD (spread (copies p n) (byteBit lane) (places n)) k 0) (length out) → Is (encoded p w out) 0 out'
-unfolding encoded codeword
-wrote p n w lane₀ lane out out' en z g e =
+-- what was sent is the codeword
+pub wrote : (p n : ℕ) (w out out' : List ℕ) → n ≡ blockOf w → refusal p w (length out) ≡ 0 → out' ≡ packed (codeBit p n w) (length out) → Is (encoded p w out) 0 out'
+unfolding encoded codeword codeBit
+wrote p n w out out' en z e =
     acceptance-leaves (refusal p w (length out)) (codeword p (blockOf w) w) out z
-    (e ∙ ap₂ (λ (x : List ℕ) (m : ℕ). packed (λ k. getD x k 0) m) (bits-of p n w lane₀ lane g ∙ ap (λ (m : ℕ). codeBits p m w) en) (accepted p w (length out) z .size))
+    (e ∙ ap₂ (λ (m k : ℕ). packed (λ j. getD (codeBits p m w) j 0) k) en (accepted p w (length out) z .size))
 
 -- a refusal leaves the bytes as they were
 pub refused : (p r : ℕ) (w out : List ℕ) → r ≡ refusal p w (length out) → (r ≡ 0 → ⊥) → Is (encoded p w out) r out

@@ -1,7 +1,10 @@
 // The turbo encoder (clauses 4.4.2 to 4.4.5).
 mod constituent;
-mod emit;
-mod lane;
+mod impulse;
+mod look;
+mod stream;
+mod tail;
+mod weights;
 
 ghost use mathlib.Core.Path.{_≡_};
 ghost use Prim.Native.Nat.{_≤_};
@@ -37,9 +40,7 @@ pub fn encode(pattern: u32, infoword: &[u8], codeword: &mut [u8]) -> u8
     if r != 0 {
         return r;
     }
-    let order = interleaver::order(n);
-    let mut groups = [0u8; 12288];
-    crate::lane::groups(infoword, &order[..n], &mut groups);
-    crate::emit::emit(&groups, n, p, codeword);
+    let second = interleaver::interleaved(n, infoword);
+    crate::stream::code(p, n, infoword, &second, codeword);
     0
 }

@@ -19,10 +19,10 @@ use Rattle.patterns.proofs.rows.entries.Lts as lts
 use Rattle.patterns.proofs.rows.entry_from.Reads as entry-from-reads
 
 abbrev Inv-loop : tie.InvT-loop
-Inv-loop pattern t₀ j₀ t j = (j ≤ 18) × (length t ≡ 18) × ((k : ℕ) → k < j → getD t k 0 ≡ groupAt pattern 12 k)
+Inv-loop pattern t₀ row tail j₀ t j = (j ≤ 18) × (length t ≡ 18) × ((k : ℕ) → k < j → getD t k 0 ≡ groupAt pattern 12 k)
 
 abbrev μ-loop : tie.MeasureT-loop
-μ-loop pattern t₀ j₀ t j = 18 - j
+μ-loop pattern t₀ row tail j₀ t j = 18 - j
 
 -- the entry of a pattern by its two rows, as they stand in the tables
 stored : (p j : ℕ) → p < 28 → j < 18 → entryFrom (getD (tab dataNumber 0 28) p 0) (getD (tab tailNumber 0 28) p 0) j ≡ groupAt p 12 j
@@ -36,20 +36,20 @@ returns c =
     let p : ℕ = c .before .args .pattern in
     sym (tab-cong (groupAt p 12) (λ k. 0) 0 18 (λ k l. group-none p 12 (0 + k) (c .if1 .taken)))
 
+mul-row : tie.Need-mul-row Inv-loop μ-loop
+mul-row c = search needs
+
+array-read-row : tie.Need-array-read-row Inv-loop μ-loop
+array-read-row c = search needs
+
+mul-tail : tie.Need-mul-tail Inv-loop μ-loop
+mul-tail c = search needs
+
+array-read-tail : tie.Need-array-read-tail Inv-loop μ-loop
+array-read-tail c = search needs
+
 loop-holds : tie.Need-loop-holds Inv-loop μ-loop
 loop-holds c = (omega arith, refl, below-none _)
-
-mul-entry-from : tie.Need-mul-entry-from Inv-loop μ-loop
-mul-entry-from c = search needs
-
-array-read-entry-from : tie.Need-array-read-entry-from Inv-loop μ-loop
-array-read-entry-from c = search needs
-
-mul-entry-from-2 : tie.Need-mul-entry-from-2 Inv-loop μ-loop
-mul-entry-from-2 c = search needs
-
-array-read-entry-from-2 : tie.Need-array-read-entry-from-2 Inv-loop μ-loop
-array-read-entry-from-2 c = search needs
 
 entry-from-requires : tie.Need-entry-from-requires Inv-loop μ-loop
 entry-from-requires c κs = search needs
@@ -93,11 +93,11 @@ entries-spec =
     Inv-loop
     μ-loop
     returns
+    mul-row
+    array-read-row
+    mul-tail
+    array-read-tail
     loop-holds
-    mul-entry-from
-    array-read-entry-from
-    mul-entry-from-2
-    array-read-entry-from-2
     entry-from-requires
     mul-t
     array-write-t

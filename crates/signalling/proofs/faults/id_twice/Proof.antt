@@ -1,31 +1,31 @@
 -- `signalling::faults::id_twice` meets its contract. Assumes nothing.
-use Prim.Native.Nat.{ℕ, _+_, _-_, _*_, _%_, _≤_, _<_}
-use mathlib.Core.Path.{_≡_, refl, sym, ap, _∙_}
-use mathlib.Core.Bool.{Bool, true, false}
-use mathlib.Core.List.{[], _∷_}
+use Prim.Native.Nat.{_+_, _-_, _*_, _≤_, _<_}
+use mathlib.Core.Path.{_≡_, sym, _∙_}
 use native.Mathlib.Omega.{arith}
-use lib.ListN.{getD, drop}
-use Rattle.ground.specs.Choice.{either}
-use Rattle.bits.specs.Places.{fieldsAt}
 use borrow.Author.Needs.{needs}
-use Rattle.bits.proofs.Places.{fields-length, fields-get}
-use Rattle.description.specs.Tests.{member, idFault}
-use Rattle.signalling.proofs.Searches.{ids-step, ids-done}
+use lib.ListN.{getD}
+use Rattle.bits.specs.Places.{fieldsAt}
+use Rattle.bits.proofs.Places.{field-lt, fields-length, fields-get}
+use Rattle.signalling.proofs.Seen.{Seen, seen-none, seen-found, seen-more, seen-all}
 use Rattle.signalling.proofs.faults.id_twice.Statement.{statement}
 use Rattle.signalling.proofs.faults.id_twice.Tie as tie
 use Rattle.signalling.proofs.faults.id_twice.Reads as reads
 use Rattle.signalling.proofs.faults.id_twice.Lts as lts
-use Rattle.signalling.proofs.faults.has_id.Reads as has-id-reads
 use Rattle.signalling.proofs.walk.word_bits.Reads as word-bits-reads
 
 abbrev Inv-loop : tie.InvT-loop
-Inv-loop w at n i₀ i = (i ≤ n) × (idFault (fieldsAt w at 16 8 n) ≡ idFault (drop i (fieldsAt w at 16 8 n)))
+Inv-loop w at n seen₀ i₀ seen i = (i ≤ n) × Seen (fieldsAt w at 16 8 n) i seen
 
 abbrev μ-loop : tie.MeasureT-loop
-μ-loop w at n i₀ i = n - i
+μ-loop w at n seen₀ i₀ seen i = i
 
 loop-holds : tie.Need-loop-holds Inv-loop μ-loop
-loop-holds c = (omega arith, refl)
+loop-holds c =
+    let o = c .before in
+    (omega arith, seen-none (fieldsAt (o .args .w .now) (o .args .at) 16 8 (o .args .n)) (o .args .n) (omega (arith, fields-length (o .args .w .now) (o .args .at) 16 8 (o .args .n))))
+
+sub-i : tie.Need-sub-i Inv-loop μ-loop
+sub-i c = search needs
 
 mul-word-bits : tie.Need-mul-word-bits Inv-loop μ-loop
 mul-word-bits c = search needs
@@ -36,48 +36,47 @@ add-word-bits c = search needs
 word-bits-requires : tie.Need-word-bits-requires Inv-loop μ-loop
 word-bits-requires c κs = search needs
 
-add-has-id : tie.Need-add-has-id Inv-loop μ-loop
-add-has-id c = search needs
+cast-id : tie.Need-cast-id Inv-loop μ-loop
+cast-id c = search needs
 
-has-id-requires : tie.Need-has-id-requires Inv-loop μ-loop
-has-id-requires c κs = search needs
+-- an id has eight bits
+fits : (c : tie.After-word-bits Inv-loop μ-loop) → c .word-bits .result < 256
+fits c =
+    let o = c .before .before .before .before in
+    omega (arith, c .word-bits .ensures, field-lt (o .args .w .now) (o .args .at + 16 * (c .before .before .loop .i - 1)) 8 (omega arith))
+
+-- and this one is that of the stream before i
+is : (c : tie.After-word-bits Inv-loop μ-loop)
+    → c .word-bits .result
+    ≡ getD (fieldsAt (c .before .before .before .before .args .w .now) (c .before .before .before .before .args .at) 16 8 (c .before .before .before .before .args .n)) (c .before .before .loop .i - 1) 0
+is c =
+    let o = c .before .before .before .before in
+    let h : c .before .before .loop .i - 1 < o .args .n = omega arith in
+    c .word-bits .ensures ∙ sym (fields-get (o .args .w .now) (o .args .at) 16 8 (o .args .n) (c .before .before .loop .i - 1) h)
+
+array-read-if1 : tie.Need-array-read-if1 Inv-loop μ-loop
+array-read-if1 c = fits c
 
 returns : tie.Need-returns Inv-loop μ-loop
 returns c =
-    let o = c .before .before .before .before .before .before in
-    let l = c .before .before .before .before .loop in
-    let ids = fieldsAt (o .args .w .now) (o .args .at) 16 8 (o .args .n) in
-    let h : l .i < o .args .n = search needs in
-    let e : c .before .before .word-bits .result ≡ getD ids (l .i) 0 = c .before .before .word-bits .ensures ∙ sym (fields-get (o .args .w .now) (o .args .at) 16 8 (o .args .n) (l .i) h) in
-    let m : member (getD ids (l .i) 0) (drop (l .i + 1) ids) ≡ true = ap (λ (x : ℕ). member x (drop (l .i + 1) ids)) (sym e) ∙ sym (c .before .has-id .ensures) ∙ c .if1 .taken in
-    sym (ids-step ids (l .i) (idFault ids) (omega (arith, fields-length (o .args .w .now) (o .args .at) 16 8 (o .args .n))) (l .inv .1)
-    ∙ ap (λ (b : Bool). either b (idFault (drop (l .i + 1) ids))) m)
+    let o = c .before .before .before .before .before in
+    let l = c .before .before .before .loop in
+    sym (seen-found (l .inv .1) (omega arith) (omega (arith, fields-length (o .args .w .now) (o .args .at) 16 8 (o .args .n))) (is (c .before)) (fits (c .before)) (c .if1 .taken))
 
-add-i : tie.Need-add-i Inv-loop μ-loop
-add-i c = search needs
+array-write-seen : tie.Need-array-write-seen Inv-loop μ-loop
+array-write-seen c = fits (c .before)
 
 loop-less : tie.Need-loop-less Inv-loop μ-loop
 loop-less c = search needs
 
 loop-again : tie.Need-loop-again Inv-loop μ-loop
 loop-again c =
-    let o = c .before .before .before .before .before .before in
-    let l = c .before .before .before .before .loop in
-    let ids = fieldsAt (o .args .w .now) (o .args .at) 16 8 (o .args .n) in
-    let h : l .i < o .args .n = search needs in
-    let e : c .before .before .word-bits .result ≡ getD ids (l .i) 0 = c .before .before .word-bits .ensures ∙ sym (fields-get (o .args .w .now) (o .args .at) 16 8 (o .args .n) (l .i) h) in
-    let m : member (getD ids (l .i) 0) (drop (l .i + 1) ids) ≡ false = ap (λ (x : ℕ). member x (drop (l .i + 1) ids)) (sym e) ∙ sym (c .before .has-id .ensures) ∙ c .if1 .left in (
-      omega arith,
-      ids-step ids (l .i) (idFault ids) (omega (arith, fields-length (o .args .w .now) (o .args .at) 16 8 (o .args .n))) (l .inv .1)
-          ∙ ap (λ (b : Bool). either b (idFault (drop (l .i + 1) ids))) m,
-    )
+    let o = c .before .before .before .before .before in
+    let l = c .before .before .before .loop in
+    (omega arith, seen-more (l .inv .1) (omega arith) (omega (arith, fields-length (o .args .w .now) (o .args .at) 16 8 (o .args .n))) (is (c .before)) (fits (c .before)) (c .if1 .left))
 
 returns-2 : tie.Need-returns-2 Inv-loop μ-loop
-returns-2 c =
-    let o = c .before .before .before in
-    let l = c .before .loop in
-    let ids = fieldsAt (o .args .w .now) (o .args .at) 16 8 (o .args .n) in
-    sym (ids-done ids (l .i) (idFault ids) (omega (arith, fields-length (o .args .w .now) (o .args .at) 16 8 (o .args .n))) (l .inv .1))
+returns-2 c = sym (seen-all (c .before .loop .inv .1) (omega arith))
 
 pub id-twice-spec : {M : Type 1} → statement M
 id-twice-spec =
@@ -86,13 +85,14 @@ id-twice-spec =
     Inv-loop
     μ-loop
     loop-holds
+    sub-i
     mul-word-bits
     add-word-bits
     word-bits-requires
-    add-has-id
-    has-id-requires
+    cast-id
+    array-read-if1
     returns
-    add-i
+    array-write-seen
     loop-less
     loop-again
     returns-2)

@@ -1,0 +1,214 @@
+//! The rows: for each exported function the cases that it is measured on.
+
+use super::library;
+use super::row::{row, Row, Tables, Title};
+use crate::inputs::{infoword, points_at_the_bound, set_payload_header, values, Coding};
+use crate::rng::Rng;
+use crate::second::turbo::{self, Encoder, PAYLOAD_BLOCK, SIGNALLING_BLOCK};
+use crate::second::{payload, preamble, signalling};
+
+type Rows<'a> = Vec<Box<dyn Row + 'a>>;
+
+/// Pattern and block.
+const CODINGS: [Coding; 5] = [
+    coding(0, PAYLOAD_BLOCK),
+    coding(5, PAYLOAD_BLOCK),
+    coding(13, PAYLOAD_BLOCK),
+    coding(27, PAYLOAD_BLOCK),
+    coding(0, SIGNALLING_BLOCK),
+];
+
+const STORY: &[u8] = include_bytes!("../../../examples/sheets/story.sheet");
+
+const fn coding(pattern: u32, block: usize) -> Coding {
+    Coding { pattern, block }
+}
+
+/// All rows. The encoder has its tables made before.
+pub fn rows(encoder: &Encoder) -> Rows<'_> {
+    let mut rows: Rows = Vec::new();
+    rows.extend(CODINGS.map(|coding| encode(encoder, coding)));
+    rows.extend(CODINGS.map(place));
+    rows.extend(sheets().map(|(case, sheet)| signalling_write(case, sheet)));
+    rows.extend(sheets().map(|(case, sheet)| signalling_read(case, sheet)));
+    rows.extend([0, 1].map(payload_write));
+    rows.extend([0, 1].map(payload_read));
+    rows.push(sof_preamble());
+    rows
+}
+
+fn coding_title(function: &'static str, coding: Coding, tables: Tables) -> Title {
+    let Coding { pattern, block } = coding;
+    Title {
+        function,
+        case: format!("pattern {pattern}, block {block}"),
+        tables,
+    }
+}
+
+fn encode(encoder: &Encoder, coding: Coding) -> Box<dyn Row + '_> {
+    let pattern = coding.pattern;
+    row(
+        coding_title("opl_encode", coding, Tables::Before),
+        coding.codeword_bytes(),
+        move |rng| infoword(rng, coding.infoword_bytes()),
+        move |word, codeword| library::encode(pattern, word, codeword),
+        move |word, codeword| encoder.encode(pattern, word, codeword),
+    )
+}
+
+fn place<'a>(coding: Coding) -> Box<dyn Row + 'a> {
+    let pattern = coding.pattern;
+    row(
+        coding_title("opl_place", coding, Tables::Inside),
+        coding.places(),
+        move |rng| values(rng, coding.code_bits()),
+        move |values, lane| library::place(pattern, values, lane),
+        move |values, lane| {
+            *lane = turbo::place(pattern, values, coding.places())?;
+            Ok(())
+        },
+    )
+}
+
+/// The example's sheet, and the two that are as full as the rules allow: of pipes, and of streams.
+fn sheets() -> impl Iterator<Item = (String, Vec<u8>)> {
+    let full = points_at_the_bound()
+        .into_iter()
+        .filter(|(_, refusal)| *refusal == 0)
+        .map(|(description, _)| {
+            let (p, s, _) = description.counts();
+            let case = format!("full, {p} pipes, {s} streams");
+            (case, signalling::sheet_of(&description))
+        });
+    [("story.sheet".to_string(), STORY.to_vec())]
+        .into_iter()
+        .chain(full)
+}
+
+/// The second implementation looks at the 28 patterns, a table that the first call makes for all.
+fn signalling_title(function: &'static str, case: String) -> Title {
+    Title {
+        function,
+        case,
+        tables: Tables::Before,
+    }
+}
+
+fn signalling_write<'a>(case: String, sheet: Vec<u8>) -> Box<dyn Row + 'a> {
+    row(
+        signalling_title("opl_signalling_write", case),
+        signalling::WORD_BYTES,
+        move |_| sheet.clone(),
+        library::signalling_write,
+        |sheet, word| {
+            word.copy_from_slice(&signalling::write(sheet, signalling::WORD_BYTES)?);
+            Ok(())
+        },
+    )
+}
+
+fn signalling_read<'a>(case: String, sheet: Vec<u8>) -> Box<dyn Row + 'a> {
+    let word = signalling::write(&sheet, signalling::WORD_BYTES).expect("a sheet that is accepted");
+    row(
+        signalling_title("opl_signalling_read", case),
+        signalling::ROOM,
+        move |_| word.to_vec(),
+        library::signalling_read,
+        |word, sheet| {
+            *sheet = signalling::read(word, signalling::ROOM)?;
+            Ok(())
+        },
+    )
+}
+
+fn payload_title(function: &'static str, ty: u32) -> Title {
+    Title {
+        function,
+        case: format!("stream type {ty}"),
+        tables: Tables::None,
+    }
+}
+
+fn payload_write<'a>(ty: u32) -> Box<dyn Row + 'a> {
+    const ID: u8 = 9;
+    row(
+        payload_title("opl_payload_write", ty),
+        payload::WORD_BYTES,
+        move |rng| rng.bytes(ty as usize * payload::PACKET_BYTES),
+        move |payload, word| library::payload_write(ty, ID, payload, word),
+        move |payload, word| {
+            *word = payload::write(ty, ID, payload, payload::WORD_BYTES)?;
+            Ok(())
+        },
+    )
+}
+
+fn payload_read<'a>(ty: u32) -> Box<dyn Row + 'a> {
+    row(
+        payload_title("opl_payload_read", ty),
+        payload::HEADER_BYTES,
+        move |rng| payload_word(rng, ty),
+        library::payload_read,
+        |word, header| {
+            header.copy_from_slice(&payload::report(word, payload::HEADER_BYTES)?);
+            Ok(())
+        },
+    )
+}
+
+fn payload_word(rng: &mut Rng, ty: u32) -> Vec<u8> {
+    let mut word = rng.bytes(payload::WORD_BYTES);
+    let (rfu, id) = (rng.field(4), rng.field(8));
+    set_payload_header(&mut word, rfu, id, ty, 0);
+    word
+}
+
+fn sof_preamble<'a>() -> Box<dyn Row + 'a> {
+    let title = Title {
+        function: "opl_preamble",
+        case: "upright".to_string(),
+        tables: Tables::None,
+    };
+    row(
+        title,
+        preamble::BYTES,
+        |_| Vec::<u8>::new(),
+        |_, out| library::preamble(out),
+        |_, out| {
+            *out = preamble::preamble();
+            Ok(())
+        },
+    )
+}
+
+#[cfg(test)]
+mod tests {
+    use super::*;
+    use crate::bench::row::SIDES;
+    use crate::fuzz::ENTRIES;
+
+    #[test]
+    fn every_exported_function_has_rows() {
+        let encoder = Encoder::new();
+        let rows = rows(&encoder);
+        for entry in ENTRIES {
+            let name = entry.name;
+            let measured = rows.iter().any(|row| row.title().function == name);
+            assert!(measured, "{name} is not measured");
+        }
+    }
+
+    #[test]
+    fn both_sides_of_every_row_agree() {
+        let encoder = Encoder::new();
+        let mut rng = Rng::new(1);
+        for mut row in rows(&encoder) {
+            row.renew(&mut rng);
+            for side in SIDES {
+                row.call(side, 1);
+            }
+            row.compare();
+        }
+    }
+}

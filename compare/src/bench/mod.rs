@@ -1,0 +1,14 @@
+//! What `make bench` runs: every exported function and its counterpart in the [`second`](crate::second)
+//! implementation on the same inputs, timed or with their instructions counted.
+
+mod cases;
+mod counts;
+mod library;
+mod report;
+mod row;
+mod times;
+
+pub use cases::rows;
+pub use counts::run_marked;
+pub use report::{print_counts, print_times};
+pub use row::Row;

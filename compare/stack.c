@@ -1,0 +1,314 @@
+/*
+ * Measures how much stack each exported function takes. A call is made on a stack of its own, which was painted
+ * before; what it took reaches from the top of that stack down to the lowest word that is not as painted. Nothing
+ * is subtracted: whatever the library calls is included, and so are the return addresses and frames of the
+ * functions here through which the call is made, 24 bytes or some more by compiler. Each call is made twice and
+ * measured the second time, as what a dynamic linker takes to find memcpy and memset is not the library's.
+ *
+ *   stack SHEET..   measures; each SHEET is a file that has a sheet, accepted or refused
+ *
+ * It prints a line for each function and each refusal number that the function gave: the function's name, that
+ * number, and the most bytes that such a call took. tests/stack.rs runs it and holds opl.h to it.
+ */
+#include <stdint.h>
+#include <stdio.h>
+#include <stdlib.h>
+#include <string.h>
+
+#include "opl.h"
+
+static void fail(const char *why)
+{
+    fprintf(stderr, "stack: %s\n", why);
+    exit(EXIT_FAILURE);
+}
+
+/* The arguments of a call: numbers, what it may read, what it may write. */
+struct call {
+    uint32_t number[2];
+    const void *from;
+    size_t n;
+    void *to;
+    size_t m;
+};
+
+static uint8_t preamble(const struct call *c)
+{
+    return opl_preamble(c->to, c->m);
+}
+
+static uint8_t signalling_read(const struct call *c)
+{
+    return opl_signalling_read(c->from, c->n, c->to, c->m);
+}
+
+static uint8_t signalling_write(const struct call *c)
+{
+    return opl_signalling_write(c->from, c->n, c->to, c->m);
+}
+
+static uint8_t payload_write(const struct call *c)
+{
+    return opl_payload_write(c->number[0], (uint8_t)c->number[1], c->from, c->n, c->to, c->m);
+}
+
+static uint8_t payload_read(const struct call *c)
+{
+    return opl_payload_read(c->from, c->n, c->to, c->m);
+}
+
+static uint8_t encode(const struct call *c)
+{
+    return opl_encode(c->number[0], c->from, c->n, c->to, c->m);
+}
+
+static uint8_t place(const struct call *c)
+{
+    return opl_place(c->number[0], c->from, c->n, c->to, c->m);
+}
+
+enum { PREAMBLE, SIGNALLING_READ, SIGNALLING_WRITE, PAYLOAD_WRITE, PAYLOAD_READ, ENCODE, PLACE, FUNCTIONS };
+
+static const struct function {
+    const char *name;
+    uint8_t (*call)(const struct call *c);
+} functions[FUNCTIONS] = {
+    [PREAMBLE] = {"opl_preamble", preamble},
+    [SIGNALLING_READ] = {"opl_signalling_read", signalling_read},
+    [SIGNALLING_WRITE] = {"opl_signalling_write", signalling_write},
+    [PAYLOAD_WRITE] = {"opl_payload_write", payload_write},
+    [PAYLOAD_READ] = {"opl_payload_read", payload_read},
+    [ENCODE] = {"opl_encode", encode},
+    [PLACE] = {"opl_place", place},
+};
+
+/* The most bytes that a call took, by function and refusal number. */
+static size_t most[FUNCTIONS][UINT8_MAX + 1];
+
+/* The painted stack, of 256 KiB. */
+enum { WORDS = 1 << 15 };
+static const uint64_t paint = 0x9E3779B97F4A7C15;
+static _Alignas(16) uint64_t stack[WORDS];
+
+/*
+ * Calls `made` on the stack that ends at `top`. It is written for x86-64, as the library is compiled for that, and
+ * in assembly, as the C headers on an Arm machine are that machine's own: a ucontext_t of theirs is another one.
+ */
+void call_on(uint64_t *top, void (*made)(void));
+__asm__(".text\n"
+        ".globl call_on\n"
+        "call_on:\n"
+        "    pushq %rbx\n"
+        "    movq %rsp, %rbx\n"
+        "    movq %rdi, %rsp\n"
+        "    callq *%rsi\n"
+        "    movq %rbx, %rsp\n"
+        "    popq %rbx\n"
+        "    retq\n");
+
+/* The call that is due, and its answer. */
+static int function;
+static const struct call *arguments;
+static uint8_t refusal;
+
+static void make_call(void)
+{
+    refusal = functions[function].call(arguments);
+}
+
+static size_t bytes_taken(void)
+{
+    size_t lowest = 0;
+    while (lowest < WORDS && stack[lowest] == paint)
+        lowest++;
+    if (lowest == 0)
+        fail("a call takes more stack than there is");
+    for (size_t i = lowest; i < WORDS; i++)
+        stack[i] = paint;
+    return (WORDS - lowest) * sizeof stack[0];
+}
+
+static uint8_t measure(int which, struct call c)
+{
+    function = which;
+    arguments = &c;
+    make_call();
+    call_on(stack + WORDS, make_call);
+    size_t bytes = bytes_taken();
+    if (bytes > most[which][refusal])
+        most[which][refusal] = bytes;
+    return refusal;
+}
+
+static void measure_preamble(void)
+{
+    static uint8_t out[OPL_PREAMBLE_BYTES];
+    measure(PREAMBLE, (struct call){.to = out, .m = sizeof out});
+    measure(PREAMBLE, (struct call){.to = out, .m = sizeof out - 1});
+}
+
+static void flip(uint8_t *bytes, size_t bit)
+{
+    bytes[bit / 8] ^= (uint8_t)(0x80 >> bit % 8);
+}
+
+static int bit_of(const uint8_t *bytes, size_t bit)
+{
+    return bytes[bit / 8] >> (7 - bit % 8) & 1;
+}
+
+/* A CRC (annex B): what it is of, and after it, `width` bits, the CRC itself. */
+struct crc {
+    size_t from;
+    size_t to;
+    unsigned width;
+    uint32_t polynomial;
+};
+
+static const struct crc signalling_crc = {0, 750, 12, 0x80F};
+static const struct crc payload_crc = {8 * OPL_PAYLOAD_BYTES, 8 * OPL_PAYLOAD_BYTES + 18, 8, 0x2F};
+
+/* Puts the CRC right, so that a changed word is refused for what comes after. */
+static void seal(uint8_t *word, struct crc crc)
+{
+    uint32_t ones = (1U << crc.width) - 1, held = ones;
+    for (size_t i = crc.from; i < crc.to; i++) {
+        int out = held >> (crc.width - 1) & 1;
+        held = (held << 1 & ones) ^ (out != bit_of(word, i) ? crc.polynomial : 0);
+    }
+    held ^= ones;
+    for (unsigned i = 0; i < crc.width; i++)
+        if (bit_of(word, crc.to + i) != (int)(held >> (crc.width - 1 - i) & 1))
+            flip(word, crc.to + i);
+}
+
+/* Has a word read as it is, at a wrong length, and with each bit from crc.from on flipped, sealed again or not. */
+static void measure_reading(int which, struct crc crc, uint8_t *word, size_t n, void *to, size_t m)
+{
+    struct call c = {.from = word, .n = n, .to = to, .m = m};
+    if (measure(which, c) != OPL_ACCEPTED)
+        fail("a word that was written is not read");
+    c.m--;
+    measure(which, c);
+    c.m++;
+    for (size_t i = crc.from; i < 8 * n; i++) {
+        flip(word, i);
+        measure(which, c);
+        if (i < crc.to) {
+            seal(word, crc);
+            measure(which, c);
+        }
+        flip(word, i);
+        seal(word, crc);
+    }
+}
+
+/* Has a sheet written as it is, at a wrong length, and with each bit flipped; what is written of it is read. */
+static void measure_sheet(uint8_t *sheet, size_t n)
+{
+    static uint8_t word[OPL_SIGNALLING_BYTES], room[OPL_SHEET_ROOM];
+    struct call c = {.from = sheet, .n = n, .to = word, .m = sizeof word};
+    if (measure(SIGNALLING_WRITE, c) == OPL_ACCEPTED)
+        measure_reading(SIGNALLING_READ, signalling_crc, word, sizeof word, room, sizeof room);
+    c.m--;
+    measure(SIGNALLING_WRITE, c);
+    c.m++;
+    for (size_t i = 0; i < 8 * n; i++) {
+        flip(sheet, i);
+        measure(SIGNALLING_WRITE, c);
+        flip(sheet, i);
+    }
+}
+
+static void measure_file(const char *name)
+{
+    static uint8_t sheet[1 << 12];
+    FILE *from = fopen(name, "rb");
+    if (from == NULL)
+        fail("a sheet cannot be read");
+    size_t n = fread(sheet, 1, sizeof sheet, from);
+    fclose(from);
+    measure_sheet(sheet, n);
+}
+
+static void measure_payload(void)
+{
+    static uint8_t payload[OPL_PAYLOAD_BYTES], word[OPL_PAYLOAD_WORD_BYTES], header[OPL_PAYLOAD_HEADER_BYTES];
+    memset(payload, 0x5A, sizeof payload);
+    for (uint32_t type = 0; type < 3; type++) {
+        struct call c = {.number = {type, 9}, .from = payload, .to = word, .m = sizeof word};
+        for (c.n = 0; c.n <= sizeof payload; c.n += sizeof payload)
+            if (measure(PAYLOAD_WRITE, c) == OPL_ACCEPTED)
+                measure_reading(PAYLOAD_READ, payload_crc, word, sizeof word, header, sizeof header);
+    }
+}
+
+/* The two blocks: the bytes of an infoword and the places of a lane. */
+static const struct block {
+    size_t infoword;
+    size_t lane;
+} blocks[] = {
+    {OPL_PAYLOAD_WORD_BYTES, OPL_PAYLOAD_LANE},
+    {OPL_SIGNALLING_BYTES, OPL_SIGNALLING_LANE},
+};
+
+/* All lengths that a codeword may have, in bytes. */
+static const size_t codewords[] = {480,  1792, 2048, 2304, 2560, 3072, 3584, 3840,
+                                   4096, 4608, 5120, 5376, 6144, 6912, 7680};
+
+static uint8_t infoword[OPL_PAYLOAD_WORD_BYTES], codeword[OPL_PAYLOAD_CODEWORD_MOST];
+static int8_t values[8 * OPL_PAYLOAD_CODEWORD_MOST];
+static int16_t lane[OPL_PAYLOAD_LANE];
+
+/* Has every length tried with each pattern and block: one is accepted, the others are refused. */
+static void measure_coding(void)
+{
+    enum { BLOCKS = sizeof blocks / sizeof blocks[0], LENGTHS = sizeof codewords / sizeof codewords[0] };
+    enum { PATTERNS = 28, CODINGS = PATTERNS + 1 };
+    int encoded = 0, placed = 0;
+    for (uint32_t pattern = 0; pattern <= PATTERNS; pattern++)
+        for (int b = 0; b < BLOCKS; b++)
+            for (int i = 0; i < LENGTHS; i++) {
+                struct call coding = {{pattern}, infoword, blocks[b].infoword, codeword, codewords[i]};
+                struct call placing = {{pattern}, values, 8 * codewords[i], lane, blocks[b].lane};
+                encoded += measure(ENCODE, coding) == OPL_ACCEPTED;
+                placed += measure(PLACE, placing) == OPL_ACCEPTED;
+            }
+    if (encoded != CODINGS || placed != CODINGS)
+        fail("a pattern is not accepted at its block and length");
+}
+
+static void measure_spare(void)
+{
+    static uint8_t word[OPL_SIGNALLING_BYTES];
+    word[sizeof word - 1] = 1;
+    measure(ENCODE, (struct call){{0}, word, sizeof word, codeword, OPL_SIGNALLING_CODEWORD_BYTES});
+}
+
+static void fill(void)
+{
+    for (size_t i = 0; i < WORDS; i++)
+        stack[i] = paint;
+    /* the last byte, with the spare bits, stays zero */
+    for (size_t i = 0; i + 1 < sizeof infoword; i++)
+        infoword[i] = (uint8_t)(i * i + i / 7);
+    infoword[OPL_SIGNALLING_BYTES - 1] = 0;
+    for (size_t i = 0; i < sizeof values; i++)
+        values[i] = (int8_t)(i % 256 - 128);
+}
+
+int main(int words, char **word)
+{
+    fill();
+    measure_preamble();
+    measure_payload();
+    measure_coding();
+    measure_spare();
+    for (int i = 1; i < words; i++)
+        measure_file(word[i]);
+    for (int f = 0; f < FUNCTIONS; f++)
+        for (int number = 0; number <= UINT8_MAX; number++)
+            if (most[f][number] > 0)
+                printf("%s %d %zu\n", functions[f].name, number, most[f][number]);
+    return fflush(stdout) == 0 ? EXIT_SUCCESS : EXIT_FAILURE;
+}

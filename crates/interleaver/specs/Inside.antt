@@ -1,0 +1,148 @@
+-- What functions inside this crate ask and promise; no public promise cites it.
+-- Assumes nothing.
+use Prim.Native.Nat.{ℕ, zero, suc, _+_, _*_, _/_, _%_, _^_, _≤_, _<_}
+use mathlib.Core.Path.{_≡_}
+use mathlib.Core.Bool.{Bool}
+use mathlib.Core.List.{List}
+use lib.Dec.{ltb, leb, eqb}
+use lib.ListN.{length, getD}
+use Rattle.ground.specs.Choice.{choose}
+use Rattle.bits.specs.Places.{bitAt, number}
+use Rattle.bits.specs.Held.{placeOf, Held}
+use Rattle.bits.specs.declared.wide.Wide.{Wide}
+use Rattle.interleaver.specs.Order.{parameter, reversed, address, kept, order}
+use Rattle.interleaver.specs.Rows.{rowAddress, column}
+
+-- the first 1,536 bytes of a word, and zeros behind a shorter word
+pub record Copied (w l : List ℕ) : Type 0 where
+  pub len : length l ≡ 1536
+  pub bytes : (k : ℕ) → k < 1536 → getD l k 0 ≡ getD w k 0
+
+-- ---- the bits of a word, a byte to a bit
+-- the number whose n digits in base 256 are f 0, f 1, .., the first highest
+unfoldable pub spelt : (ℕ → ℕ) → ℕ → ℕ
+spelt f zero = 0
+spelt f (suc n) = spelt f n * 256 + f n
+
+-- the bits of a byte as digits in base 256, the top bit lowest
+unfoldable pub spread : ℕ → ℕ
+spread b = spelt (λ k. b / 2 ^ k % 2) 8
+
+-- a table of all bytes so spread
+pub record Spreads (t : List ℕ) : Type 0 where
+  pub entry : (b : ℕ) → b < 256 → getD t b 0 ≡ spread b
+
+-- n bytes f 0, f 1, .. stand from a place on, and the others are as they were
+pub record Stored (l : List ℕ) (at : ℕ) (f : ℕ → ℕ) (l' : List ℕ) (n : ℕ) : Type 0 where
+  pub len : length l' ≡ length l
+  pub here : (k : ℕ) → k < n → getD l' (at + k) 0 ≡ f k
+  pub before : (k : ℕ) → k < at → getD l' k 0 ≡ getD l k 0
+  pub behind : (k : ℕ) → at + n ≤ k → getD l' k 0 ≡ getD l k 0
+
+-- two bits of a word in a byte
+abbrev pub couple : List ℕ → ℕ → ℕ → ℕ
+couple w a b = bitAt w a + 64 * bitAt w b
+
+-- the bits of y bytes of the first half of a segment stand with those of its second half, and the segments before are as they were
+pub record Coupled (w : List ℕ) (from half : ℕ) (d d' : List ℕ) (y : ℕ) : Type 0 where
+  pub len : length d' ≡ length d
+  pub first : (k : ℕ) → k < 8 * y → getD d' (8 * from + k) 0 ≡ couple w (8 * from + k) (8 * (from + half) + k)
+  pub second : (k : ℕ) → k < 8 * y → getD d' (8 * (from + half) + k) 0 ≡ couple w (8 * (from + half) + k) (8 * from + k)
+  pub before : (k : ℕ) → k < 8 * from → getD d' k 0 ≡ getD d k 0
+
+-- 24 segments of pairs of bits: the second bit of a pair is the first of the pair that stands half a segment further on, round the segment
+pub record Paired (size : ℕ) (d : List ℕ) : Type 0 where
+  pub len : length d ≡ 24 * size
+  pub first : (k : ℕ) → getD d k 0 % 64 < 2
+  pub second : (k : ℕ) → getD d k 0 / 64 < 2
+  pub fellow : (s x : ℕ) → s < 24 → x < size → getD d (s * size + x) 0 / 64 ≡ getD d (s * size + (x + size / 2) % size) 0 % 64
+
+-- the bits of a word in pairs
+pub record Unpacked (size : ℕ) (w d : List ℕ) : Type 0 where
+  pub pairs : Paired size d
+  pub bits : (a : ℕ) → a < 24 * size → getD d a 0 % 64 ≡ bitAt w a
+
+-- ---- rows
+-- what reading at a place of a row asks
+pub record Place (d : List ℕ) (size j t e : ℕ) : Type 0 where
+  pub pairs : Paired size d
+  pub some : 0 < size
+  pub most : size ≤ 512
+  pub row : j ≤ 512
+  pub inside : t < 24
+  pub small : e < 512
+
+-- the pair at the place t of the row j, by the entry e of table 10
+unfoldable pub pairAt : List ℕ → ℕ → ℕ → ℕ → ℕ → ℕ
+pairAt d size j t e = getD d (reversed (column t) * size + j * e % size) 0
+
+-- the pair i of those from the place t on, by their entries
+unfoldable pub sixOf : List ℕ → ℕ → ℕ → ℕ → List ℕ → ℕ → ℕ
+sixOf d size j t es i = pairAt d size j (t + i) (getD es i 0)
+
+-- four digits in base 64
+abbrev pub digits : ℕ → ℕ → ℕ → ℕ → ℕ
+digits a b c d = ((a * 64 + b) * 64 + c) * 64 + d
+
+-- the low six bits of four numbers, and above 32 bits the six bits over them
+pub record Two (a b c d r : ℕ) : Type 0 where
+  pub first : r % 4294967296 ≡ digits (a % 64) (b % 64) (c % 64) (d % 64)
+  pub second : r / 4294967296 ≡ digits (a / 64) (b / 64) (c / 64) (d / 64)
+
+-- the pair at the place t of the row j, for a block whose parameter is n
+unfoldable pub rowPair : ℕ → List ℕ → ℕ → ℕ → ℕ
+rowPair n d j t = getD d (rowAddress n j (column t)) 0
+
+-- what the pairs of the row j spell: their first bits, and above 32 bits their second bits
+pub record Both (n : ℕ) (d : List ℕ) (j r : ℕ) : Type 0 where
+  pub first : r % 4294967296 ≡ number (λ t. rowPair n d j t % 64) 0 24
+  pub second : r / 4294967296 ≡ number (λ t. rowPair n d j t / 64) 0 24
+
+-- half the rows of a block of N bits
+unfoldable pub halfOf : ℕ → ℕ
+halfOf N = choose (eqb N 12282) 256 16
+
+-- a list holds m rows of 24 bits, behind those before
+pub record Listed (N : ℕ) (d : List ℕ) (from : ℕ) (rows : List ℕ) (m : ℕ) : Type 0 where
+  pub row : (i : ℕ) → i < m → getD rows i 0 ≡ number (λ t. rowPair (parameter N) d (from + i + 1) t % 64) 0 24
+
+-- m rows of each half are listed
+pub record Halves (N : ℕ) (d first second : List ℕ) (m : ℕ) : Type 0 where
+  pub firsts : Listed N d 0 first m
+  pub seconds : Listed N d (halfOf N) second m
+  pub first-length : length first ≡ 256
+  pub second-length : length second ≡ 256
+
+-- ---- the sink
+-- the row j is cut short: the address of its last column but one is behind the block
+unfoldable pub shortAt : ℕ → ℕ → Bool
+shortAt N j = leb N (rowAddress (parameter N) j 29)
+
+-- the bits of a row, and how many, where it is cut short and where it is not
+abbrev pub rowValue : Bool → ℕ → ℕ
+rowValue t v = choose t (v / 4 * 2 + v % 2) v
+
+abbrev pub rowWidth : Bool → ℕ
+rowWidth t = choose t 23 24
+
+-- the bit that is read at the period p, by the first bits of the pairs, and zeros behind the block
+unfoldable pub readBit : ℕ → List ℕ → ℕ → ℕ
+readBit N d p = choose (ltb p N) (getD d (getD (order N) p 0) 0 % 64) 0
+
+-- the sink stands behind i rows, and what it stored are whole words of 32 bits
+pub record Behind (N : ℕ) (s : Wide) (i : ℕ) : Type 0 where
+  pub room : s .used < 32
+  pub words : s .at % 4 ≡ 0
+  pub at : placeOf s ≡ length (kept (address (parameter N)) N (32 * i))
+
+-- m rows of a list went into the sink, behind those before: whatever pairs they are rows of, the sink holds what is read of those, and the bytes behind it are as they were
+pub record Sunk (N from : ℕ) (rows out : List ℕ) (s : Wide) (out' : List ℕ) (r : Wide) (m : ℕ) : Type 0 where
+  pub place : Behind N r (from + m)
+  pub len : length out' ≡ length out
+  pub behind : (j : ℕ) → placeOf r ≤ 8 * j → getD out' j 0 ≡ getD out j 0
+  pub keeps : (d : List ℕ) → Paired (2 ^ parameter N) d → Listed N d from rows m → Held (readBit N d) out s → Held (readBit N d) out' r
+
+-- what is read of the pairs is packed
+pub record Gathered (N : ℕ) (d out : List ℕ) : Type 0 where
+  pub len : length out ≡ 1536
+  pub bytes : (k : ℕ) → k < 1536 → getD out k 0 ≡ number (readBit N d) (8 * k) 8

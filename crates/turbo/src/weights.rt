@@ -1,0 +1,56 @@
+// What each bit of six bit periods weighs in the number of what a pattern sends of them.
+ghost use mathlib.Core.Path.{_≡_};
+ghost use Prim.Native.Nat.{_+_, _-_, _*_, _/_, _%_, _^_, _<_};
+ghost use lib.ListN.{getD};
+ghost use Rattle.patterns.specs.Walk.{entries};
+ghost use Rattle.patterns.specs.Sent.{total};
+ghost use Rattle.turbo.specs.Six.{halfAt};
+ghost use Rattle.turbo.specs.Tables.{HalfOf, Light};
+
+// Of a half of a pattern's twelve groups, with the registers' six bits behind: what each place weighs, and how many bits there are.
+pub struct Half {
+    pub weights: [u64; 36],
+    pub bits: usize,
+}
+
+// How often the place i of a half is sent.
+fn digit_at(pattern: usize, rows: &[u16; 18], h: usize, i: usize) -> u8
+    requires { ⌜ (pattern < 28) × (now rows ≡ entries pattern) × (h < 2) × (i < 36) ⌝ }
+    ensures { λ r. ⌜ (r ≡ halfAt pattern h i) × (r < 2) ⌝ }
+{
+    if i < 30 {
+        let at = 30 * h + i;
+        return patterns::rows::digit(rows[at / 5], at % 5);
+    }
+    1
+}
+
+pub fn weights_of(pattern: usize, rows: &[u16; 18], h: usize) -> Half
+    requires { ⌜ (pattern < 28) × (now rows ≡ entries pattern) × (h < 2) ⌝ }
+    ensures { λ r. ⌜ HalfOf pattern h r ⌝ }
+{
+    let mut weights = [0u64; 36];
+    let mut bits = 0;
+    let mut i = 36;
+    while 0 < i {
+        i -= 1;
+        let d = digit_at(pattern, rows, h, i);
+        weights[i] = (d as u64) << bits;
+        bits += d as usize;
+    }
+    Half { weights, bits }
+}
+
+// What the 36 bits of x weigh together.
+pub fn weigh(w: &[u64; 36], x: u64) -> u64
+    requires { ⌜ Light (now w) ⌝ }
+    ensures { λ r. ⌜ r ≡ total (λ t. x / 2 ^ (35 - t) % 2 * getD (now (w .entry)) t 0) 36 ⌝ }
+{
+    let mut sum = 0;
+    let mut t = 0;
+    while t < 36 {
+        sum += (x >> (35 - t)) % 2 * w[t];
+        t += 1;
+    }
+    sum
+}
