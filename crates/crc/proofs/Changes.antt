@@ -7,22 +7,13 @@ use native.Mathlib.Nat.{zero-mul, one-mul, div-lt-iff-lt-mul, div-add-mod', not-
 use native.Mathlib.Omega.{arith}
 use lib.Arith.{bin-ind, mod-mul}
 use lib.Dec.{lit<}
-use lib.Bits.{bitXor, differ, xor-step, xor-zero-r}
+use lib.Bits.{bitXor, xor-zero-r}
 use lib.ListN.{length, getD, set}
 use lib.Pow.{pow-pos}
 use Rattle.bits.specs.Lists.{Below}
+use Rattle.bits.proofs.Sums.{xor-half}
 use Rattle.crc.specs.Crc.{clock, clocks, crcOf}
 use Rattle.crc.proofs.Laws.{twice-top, clock-lt, clocks-lt}
-
-differ-bit : (x y : ℕ) → x < 2 → y < 2 → differ x y ≡ (x + y) % 2
-differ-bit zero y h k = omega arith
-differ-bit (suc zero) zero h k = refl
-differ-bit (suc zero) (suc zero) h k = refl
-differ-bit (suc zero) (suc (suc y)) h k = absurd (omega arith)
-differ-bit (suc (suc x)) y h k = absurd (omega arith)
-
-xor-half : (a b : ℕ) → bitXor a b ≡ bitXor (a / 2) (b / 2) * 2 + (a % 2 + b % 2) % 2
-xor-half a b = xor-step a b ∙ ap (λ (d : ℕ). bitXor (a / 2) (b / 2) * 2 + d) (differ-bit (a % 2) (b % 2) (omega arith) (omega arith))
 
 xor-cancel : (c a b : ℕ) → bitXor a c ≡ bitXor b c → a ≡ b
 xor-cancel =

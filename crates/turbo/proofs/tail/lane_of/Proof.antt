@@ -25,7 +25,7 @@ state-of-requires : tie.Need-state-of-requires
 state-of-requires c κs = search needs
 
 tail-groups-requires : tie.Need-tail-groups-requires
-tail-groups-requires c κs = (subst Bits (sym (c .state-of .ensures)) (stateOf-bits (c .before .before .args .both / 8)), omega arith)
+tail-groups-requires c κs = (subst Bits (sym (c .state-of .ensures)) (stateOf-bits _), omega arith)
 
 slice-aggregate-tail-groups-2 : tie.Need-slice-aggregate-tail-groups-2
 slice-aggregate-tail-groups-2 c = search needs
@@ -34,7 +34,7 @@ state-of-requires-2 : tie.Need-state-of-requires-2
 state-of-requires-2 c κs = search needs
 
 tail-groups-requires-2 : tie.Need-tail-groups-requires-2
-tail-groups-requires-2 c κs = (subst Bits (sym (c .state-of2 .ensures)) (stateOf-bits (c .before .before .before .before .before .before .args .both)), omega (arith, c .before .before .before .tail-groups .ensures .len))
+tail-groups-requires-2 c κs = (subst Bits (sym (c .state-of2 .ensures)) (stateOf-bits _), omega (arith, c .before .before .before .tail-groups .ensures .len))
 
 returns : tie.Need-returns
 returns c =

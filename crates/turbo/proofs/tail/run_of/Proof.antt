@@ -71,7 +71,7 @@ more-requires c κs =
     let s : State = stateOf (b .args .both / 8) in
     let t : State = stateOf (b .args .both) in (
       omega arith,
-      subst (λ (x : ℕ). x ≤ 3) (sym (digit-is c)) (tail-few (b .args .pattern) (l .k) (b .pre .0) (c .before .before .loop-test .taken)),
+      omega (arith, digit-is c, tail-few (b .args .pattern) (l .k) (b .pre .0) (c .before .before .loop-test .taken)),
       running-small (b .args .pattern) s t (l .r) (l .k) (b .pre .0) (l .inv),
       running-bits (b .args .pattern) s t (l .r) (l .k) (b .pre .0) (l .inv),
     )
