@@ -1,4 +1,4 @@
--- Laws of the tail: one period more, and what is sent of its thirty places.
+-- Laws of the tail: its symbols by the table of both encoders, and what is sent of its thirty places.
 -- Assumes nothing.
 use Prim.Native.Nat.{ℕ, suc, _+_, _-_, _*_, _/_, _%_, _^_, _≤_, _<_}
 use mathlib.Core.Path.{_≡_, refl, sym, ap, ap₂, _∙_, subst}
@@ -14,10 +14,10 @@ use borrow.Author.Tests.{lt-ltb, le-ltb}
 use Rattle.ground.specs.Choice.{choose}
 use Rattle.ground.specs.Table.{tab, allBelow}
 use Rattle.ground.proofs.Choice.{choose-true, choose-false}
-use Rattle.ground.proofs.Table.{at-all}
-use Rattle.bits.specs.Lists.{bits, Below}
-use Rattle.bits.proofs.Lists.{bits-num}
-use Rattle.bits.proofs.Joined.{bits-at}
+use Rattle.ground.proofs.Table.{getD-tab, at-all}
+use Rattle.bits.specs.Lists.{Below}
+use Rattle.bits.specs.Places.{number}
+use Rattle.bits.proofs.Places.{number-append, number-move, number-bit}
 use Rattle.bits.proofs.Below.{below-get}
 use Rattle.patterns.specs.Rows.{dataRows, tailRows, dataGroup, tailGroup, groupAt, digit}
 use Rattle.patterns.specs.Walk.{entries}
@@ -26,59 +26,14 @@ use Rattle.patterns.proofs.Totals.{total-more, total-mono}
 use Rattle.turbo.specs.Constituent.{y0, y1}
 use Rattle.turbo.specs.Lane.{tailSymbols1, tailSymbols2}
 use Rattle.turbo.specs.Six.{stateOf, digitAt, segment}
-use Rattle.turbo.specs.Stream.{tailSymbol, TailLane, Tail}
+use Rattle.turbo.specs.Stream.{tailSymbol, tailOf, tails, Tail}
 use Rattle.turbo.specs.declared.tail.Run.{Run}
 use Rattle.turbo.proofs.Segments.{segment-more, segment-lt}
 use borrow.Author.Count.{below-none, below-more}
 use lib.ListN.{length, getD, set, length-set}
 use lib.Seq.{getD-set-same, getD-set-other}
-use Rattle.bits.specs.Lists.{num}
 use Rattle.turbo.specs.Constituent.{next, feed, clocked}
-use Rattle.turbo.specs.Inside.{Bits, tailSymbols, Tailed, symbol}
 use Rattle.turbo.specs.declared.constituent.State.{State}
-
--- after t tail periods
-pub record TailUpto (i : ℕ) (s : State) (two : Bool) (lane₀ lane : List ℕ) (st : State) (t : ℕ) : Type 0 where
-  pub len : length lane ≡ length lane₀
-  pub before : (k : ℕ) → k < i → getD lane k 0 ≡ getD lane₀ k 0
-  pub groups : (j : ℕ) → j < t → getD lane (i + j) 0 ≡ num (tailSymbols two (clocked s j))
-  pub now : st ≡ clocked s t
-  pub bits : Bits st
-
-pub tail-none : (i : ℕ) (s : State) (two : Bool) (lane : List ℕ) → Bits s → TailUpto i s two lane lane s 0
-unfolding clocked
-tail-none i s two lane h = record {
-  len = refl;
-  before = λ k l. refl;
-  groups = below-none (λ j. getD lane (i + j) 0 ≡ num (tailSymbols two (clocked s j)));
-  now = refl;
-  bits = h;
-}
-
-pub tail-more : (i : ℕ) (s : State) (two : Bool) (lane₀ lane : List ℕ) (st : State) (t g u : ℕ) (st' : State) → TailUpto i s two lane₀ lane st t → i + t < length lane₀
-    → g ≡ num (tailSymbols two st) → u ≡ feed st → (st' ≡ next u st) × Bits st' → TailUpto i s two lane₀ (set lane (i + t) g) st' (t + 1)
-unfolding clocked
-tail-more i s two lane₀ lane st t g u st' h room eg eu es = record {
-  len = length-set lane (i + t) g ∙ h .len;
-  before = λ k l. getD-set-other lane (i + t) k g 0 (omega arith) ∙ h .before k l;
-  groups = below-more (λ j. getD (set lane (i + t) g) (i + j) 0 ≡ num (tailSymbols two (clocked s j))) t
-      (λ j l. getD-set-other lane (i + t) (i + j) g 0 (omega arith) ∙ h .groups j l)
-      (getD-set-same lane (i + t) g 0 (omega (arith, h .len)) ∙ eg ∙ ap (λ (x : State). num (tailSymbols two x)) (h .now));
-  now = es .0 ∙ ap (λ (x : ℕ). next x st) eu ∙ ap (λ (x : State). next (feed x) x) (h .now) ∙ sym (ap (clocked s) (add-one t));
-  bits = es .1;
-}
-
--- both encoders' groups
-pub tail-lane : (s t s' t' : State) (l0 l1 l2 : List ℕ) → s' ≡ s → t' ≡ t → Tailed 0 s' false l0 l1 → Tailed 3 t' true l1 l2 → TailLane s t l2
-tail-lane s t s' t' l0 l1 l2 es et a b = record {
-  first = λ k h. b .before k h ∙ ap (λ (i : ℕ). getD l1 i 0) (sym (zero-add k)) ∙ a .groups k h ∙ ap (λ (x : State). num (tailSymbols1 (clocked x k))) es;
-  last = λ k h. b .groups k h ∙ ap (λ (x : State). num (tailSymbols2 (clocked x k))) et;
-}
-
--- ---- the symbols
--- the symbol of a group's byte is that of the group
-pub symbol-num : (l : List ℕ) (j : ℕ) → Below 2 l → length l ≡ 5 → j < 5 → symbol (num l) j ≡ getD l j 0
-symbol-num l j h e k = sym (bits-at 5 (num l) j k) ∙ ap (λ (x : List ℕ). getD x j 0) (ap (λ (n : ℕ). bits n (num l)) (sym e) ∙ bits-num l h)
 
 tail-bits1 : (s : State) → Below 2 (tailSymbols1 s) × (length (tailSymbols1 s) ≡ 5)
 unfolding tailSymbols1 feed y0 y1
@@ -97,25 +52,35 @@ module _ (s t : State) where
   unfolding tailSymbol
   last-three k h = ap (λ (l : List ℕ). getD l (k % 5) 0) (choose-false (tailSymbols1 (clocked s (k / 5))) (tailSymbols2 (clocked t (k / 5 - 3))) (le-ltb (k / 5) 3 (omega arith)))
 
-  pub tail-symbol : (l : List ℕ) → TailLane s t l → (k : ℕ) → k < 30 → symbol (getD l (k / 5) 0) (k % 5) ≡ tailSymbol s t k
-  tail-symbol l L k h =
-      elim (decLt k 15) [
-        | yes a ↦ (
-            let b = tail-bits1 (clocked s (k / 5)) in
-            ap (λ (x : ℕ). symbol x (k % 5)) (L .first (k / 5) (omega arith)) ∙ symbol-num (tailSymbols1 (clocked s (k / 5))) (k % 5) (b .0) (b .1) (omega arith) ∙ sym (first-three k a))
-        | no a ↦ (
-            let b = tail-bits2 (clocked t (k / 5 - 3)) in
-            let e : k / 5 ≡ 3 + (k / 5 - 3) = omega arith in
-            ap (λ (x : ℕ). symbol (getD l x 0) (k % 5)) e ∙ ap (λ (x : ℕ). symbol x (k % 5)) (L .last (k / 5 - 3) (omega arith))
-            ∙ symbol-num (tailSymbols2 (clocked t (k / 5 - 3))) (k % 5) (b .0) (b .1) (omega arith) ∙ sym (last-three k (omega arith)))
-      ]
-
   pub tail-lt : (k : ℕ) → tailSymbol s t k < 2
   tail-lt k =
       elim (decLt k 15) [
         | yes a ↦ subst (λ (x : ℕ). x < 2) (sym (first-three k a)) (below-get 2 (tailSymbols1 (clocked s (k / 5))) (k % 5) (omega arith) (tail-bits1 (clocked s (k / 5)) .0))
         | no a ↦ subst (λ (x : ℕ). x < 2) (sym (last-three k (omega arith))) (below-get 2 (tailSymbols2 (clocked t (k / 5 - 3))) (k % 5) (omega arith) (tail-bits2 (clocked t (k / 5 - 3)) .0))
       ]
+
+  -- the symbols by the two entries of the table
+  pub tail-number : (x y : ℕ) → x < 8 → y < 8 → stateOf x ≡ s → stateOf (8 + y) ≡ t → getD tails x 0 * 32768 + getD tails (8 + y) 0 ≡ number (tailSymbol s t) 0 30
+  unfolding tails tailOf
+  tail-number x y hx hy es et =
+      let first : getD tails x 0 ≡ number (tailSymbol s t) 0 15 =
+      getD-tab (λ i. number (tailOf i) 0 15) 0 0 16 x (omega arith) ∙ ap (λ (i : ℕ). number (tailOf i) 0 15) (zero-add x)
+      ∙ number-move (tailOf x) (tailSymbol s t) 0 0 15 (λ k l.
+      ap (λ (m : List ℕ). getD m ((0 + k) % 5) 0) (choose-true _ _ (lt-ltb x 8 hx) ∙ ap (λ (r : State). tailSymbols1 (clocked r ((0 + k) / 5))) es) ∙ sym (first-three (0 + k) (omega arith))) in
+      let last : getD tails (8 + y) 0 ≡ number (tailSymbol s t) 15 15 =
+      getD-tab (λ i. number (tailOf i) 0 15) 0 0 16 (8 + y) (omega arith) ∙ ap (λ (i : ℕ). number (tailOf i) 0 15) (zero-add (8 + y))
+      ∙ number-move (tailOf (8 + y)) (tailSymbol s t) 0 15 15 (λ k l.
+      let e1 : (0 + k) / 5 ≡ (15 + k) / 5 - 3 = omega arith in
+      let e2 : (0 + k) % 5 ≡ (15 + k) % 5 = omega arith in
+      ap (λ (m : List ℕ). getD m ((0 + k) % 5) 0) (choose-false _ _ (le-ltb (8 + y) 8 (omega arith)))
+      ∙ ap₂ (λ (a b : ℕ). getD (tailSymbols2 (clocked (stateOf (8 + y)) a)) b 0) e1 e2 ∙ ap (λ (r : State). getD (tailSymbols2 (clocked r ((15 + k) / 5 - 3))) ((15 + k) % 5) 0) et ∙ sym (last-three (15 + k) (omega arith))) in
+      ap₂ (λ (a b : ℕ). a * 32768 + b) first last ∙ sym (number-append (tailSymbol s t) 0 15 15)
+
+  pub tail-symbol : (v : ℕ) → v ≡ number (tailSymbol s t) 0 30 → (k : ℕ) → k < 30 → v / 2 ^ (29 - k) % 2 ≡ tailSymbol s t k
+  tail-symbol v e k h =
+      let c : k + 1 + (29 - k) ≡ 30 = omega arith in
+      ap (λ (x : ℕ). x / 2 ^ (29 - k) % 2) e
+      ∙ subst (λ (n : ℕ). number (tailSymbol s t) 0 n / 2 ^ (29 - k) % 2 ≡ tailSymbol s t (0 + k)) c (number-bit (tailSymbol s t) tail-lt 0 k (29 - k)) ∙ ap (tailSymbol s t) (zero-add k)
 
 -- ---- how often they are sent: no symbol more than three times, and no more than thirty bits together
 few : ℕ → Bool

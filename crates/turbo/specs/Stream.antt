@@ -6,8 +6,8 @@ use mathlib.Core.List.{List}
 use lib.Dec.{ltb}
 use lib.ListN.{length, getD}
 use Rattle.ground.specs.Choice.{choose}
-use Rattle.bits.specs.Lists.{num}
-use Rattle.bits.specs.Places.{bitAt}
+use Rattle.ground.specs.Table.{tab}
+use Rattle.bits.specs.Places.{bitAt, number}
 use Rattle.bits.specs.Held.{placeOf, Held}
 use Rattle.patterns.specs.Blocks.{Coded}
 use Rattle.patterns.specs.Rows.{copies}
@@ -53,10 +53,12 @@ pub record Sent (p n : ℕ) (w out : List ℕ) (c : Coder) (q : ℕ) : Type 0 wh
 unfoldable pub tailSymbol : State → State → ℕ → ℕ
 tailSymbol s t k = getD (choose (ltb (k / 5) 3) (tailSymbols1 (clocked s (k / 5))) (tailSymbols2 (clocked t (k / 5 - 3)))) (k % 5) 0
 
--- the tail's six groups, each as the number of its symbols
-pub record TailLane (s t : State) (l : List ℕ) : Type 0 where
-  pub first : (k : ℕ) → k < 3 → getD l k 0 ≡ num (tailSymbols1 (clocked s k))
-  pub last : (k : ℕ) → k < 3 → getD l (3 + k) 0 ≡ num (tailSymbols2 (clocked t k))
+-- the symbol at the place k of the fifteen of one encoder, by the register i, of encoder 2 from 8 on
+unfoldable pub tailOf : ℕ → ℕ → ℕ
+tailOf i k = getD (choose (ltb i 8) (tailSymbols1 (clocked (stateOf i) (k / 5))) (tailSymbols2 (clocked (stateOf i) (k / 5)))) (k % 5) 0
+
+unfoldable pub tails : List ℕ
+tails = tab (λ i. number (tailOf i) 0 15) 0 16
 
 -- what a pattern sends of the tail, and how many bits that is
 pub record Tail (p : ℕ) (s t : State) (r : Run) : Type 0 where

@@ -29,7 +29,7 @@ slice-aggregate-half-of : tie.Need-slice-aggregate-half-of
 slice-aggregate-half-of c = search needs
 
 half-of-requires : tie.Need-half-of-requires
-half-of-requires c κs = search needs
+half-of-requires c κs = (c .before .before .before .before .before .before .before .pre .0, omega arith, c .before .before .before .before .before .weights-of .ensures .weights, c .before .before .before .before .before .before .impulses .ensures, omega arith)
 
 slice-aggregate-second-half : tie.Need-slice-aggregate-second-half
 slice-aggregate-second-half c = search needs

@@ -39,7 +39,7 @@ weights-of-requires : tie.Need-weights-of-requires
 weights-of-requires c κs = search needs
 
 half-of-requires : tie.Need-half-of-requires
-half-of-requires c κs = search needs
+half-of-requires c κs = let p = c .before .before .before .before .before .before .before .pre in (p .0, omega arith, c .before .before .before .weights-of .ensures .weights, p .2, omega (arith, p .3))
 
 sub-result : tie.Need-sub-result
 sub-result c = omega (arith, c .before .before .before .before .before .before .before .weights-of .ensures .bits, half-six (c .before .before .before .before .before .before .before .before .before .before .before .args .pattern) 1)

@@ -39,17 +39,17 @@ shl-t8 c = search needs
 sub-t9 : tie.Need-sub-t9
 sub-t9 c = omega (arith, power (c .before .args .times) (c .before .pre .1))
 
-mul-t11 : tie.Need-mul-t11
-mul-t11 c = let p = c .before .pre in record { fits = omega (arith, ones (c .before .args .times) (c .before .args .symbol) (p .1) (p .0)) }
+mul-t10 : tie.Need-mul-t10
+mul-t10 c = let p = c .before .pre in record { fits = omega (arith, ones (c .before .args .times) (c .before .args .symbol) (p .1) (p .0)) }
 
-add-t12 : tie.Need-add-t12
-add-t12 c =
+add-t11 : tie.Need-add-t11
+add-t11 c =
     let p = c .before .pre in
     let a = c .before .args in
     record { fits = omega (arith, ones (a .times) (a .symbol) (p .1) (p .0), room (a .r .value) (a .times) (p .1) (p .2)) }
 
-add-t13 : tie.Need-add-t13
-add-t13 c = search needs
+add-t12 : tie.Need-add-t12
+add-t12 c = search needs
 
 returns : tie.Need-returns
 returns c =
@@ -58,4 +58,4 @@ returns c =
     (ap₂ (λ (x y : ℕ). x + (y - 1) * a .symbol) (shl-exact {a = a .r .value} 30 (a .times) 64 (p .2) (omega (arith, p .1))) (power (a .times) (p .1) .0), refl)
 
 pub more-spec : {M : Type 1} → statement M
-more-spec = tie.close (tie.spec shl-t6 shl-t8 sub-t9 mul-t11 add-t12 add-t13 returns)
+more-spec = tie.close (tie.spec shl-t6 shl-t8 sub-t9 mul-t10 add-t11 add-t12 returns)

@@ -1,47 +1,76 @@
 -- `turbo::tail::run_of` meets its contract. Assumes nothing.
-use Prim.Native.Nat.{ℕ, _+_, _-_, _*_, _/_, _%_, _^_, _≤_}
-use mathlib.Core.Path.{_≡_, sym, ap, ap₂, _∙_, subst}
+use Prim.Native.Nat.{ℕ, _+_, _-_, _*_, _/_, _%_, _^_, _≤_, _<_}
+use mathlib.Core.Path.{_≡_, sym, ap, ap₂, _∙_}
 use mathlib.Core.List.{List}
 use native.Mathlib.Omega.{arith}
 use lib.ListN.{length, getD}
+use Rattle.ground.proofs.Table.{length-tab}
+use Rattle.bits.specs.Places.{number}
 use Rattle.patterns.specs.Rows.{digit}
 use Rattle.patterns.specs.Walk.{entries}
 use Rattle.turbo.specs.Six.{stateOf, digitAt}
-use Rattle.turbo.specs.Stream.{tailSymbol}
+use Rattle.turbo.specs.Stream.{tailSymbol, tailOf, tails}
 use Rattle.turbo.specs.declared.constituent.State.{State}
-use Rattle.turbo.proofs.Tails.{tail-symbol, tail-lt, tail-few, Running, running-none, running-more, running-all, running-bits, running-small}
+use Rattle.turbo.proofs.Tails.{tail-number, tail-symbol, tail-few, Running, running-none, running-more, running-all, running-bits, running-small}
 use borrow.Author.Needs.{needs}
 use Rattle.turbo.proofs.tail.run_of.Statement.{statement}
 use Rattle.turbo.proofs.tail.run_of.Tie as tie
 use Rattle.turbo.proofs.tail.run_of.Reads as reads
 use Rattle.turbo.proofs.tail.run_of.Lts as lts
 use Rattle.patterns.proofs.rows.digit.Reads as digit-reads
-use Rattle.turbo.proofs.tail.lane_of.Reads as lane-of-reads
 use Rattle.turbo.proofs.tail.more.Reads as more-reads
+use Rattle.turbo.proofs.tail.tails.Reads as tails-reads
+use Rattle.turbo.proofs.tail.wide.Reads as wide-reads
 
 abbrev Inv-loop : tie.InvT-loop
-Inv-loop pattern rows both lane r₀ k₀ r k = Running pattern (stateOf (both / 8)) (stateOf both) r k
+Inv-loop pattern rows both symbols r₀ k₀ r k = Running pattern (stateOf (both / 8)) (stateOf both) r k
 
 abbrev μ-loop : tie.MeasureT-loop
-μ-loop pattern rows both lane r₀ k₀ r k = 30 - k
+μ-loop pattern rows both symbols r₀ k₀ r k = 30 - k
 
-lane-of-requires : tie.Need-lane-of-requires Inv-loop μ-loop
-lane-of-requires c κs = search needs
+tails-requires : tie.Need-tails-requires Inv-loop μ-loop
+tails-requires c κs = search needs
+
+mul-wide : tie.Need-mul-wide Inv-loop μ-loop
+mul-wide c = search needs
+
+-- two encoders' registers
+sixteen : (c : tie.After-tails Inv-loop μ-loop) → length (c .tails .result) ≡ 16
+unfolding tails
+sixteen c = ap length (c .tails .ensures) ∙ length-tab (λ i. number (tailOf i) 0 15) 0 16
+
+array-read-wide : tie.Need-array-read-wide Inv-loop μ-loop
+array-read-wide c = omega (arith, sixteen c)
+
+wide-requires : tie.Need-wide-requires Inv-loop μ-loop
+wide-requires c κs = search needs
+
+mul-symbols : tie.Need-mul-symbols Inv-loop μ-loop
+mul-symbols c = omega (arith, c .wide .ensures .1)
+
+add-wide : tie.Need-add-wide Inv-loop μ-loop
+add-wide c = search needs
+
+mul-wide-2 : tie.Need-mul-wide-2 Inv-loop μ-loop
+mul-wide-2 c = search needs
+
+array-read-wide-2 : tie.Need-array-read-wide-2 Inv-loop μ-loop
+array-read-wide-2 c = omega (arith, sixteen (c .before))
+
+wide-requires-2 : tie.Need-wide-requires-2 Inv-loop μ-loop
+wide-requires-2 c κs = search needs
+
+add-symbols : tie.Need-add-symbols Inv-loop μ-loop
+add-symbols c = omega (arith, c .before .wide .ensures .1, c .wide2 .ensures .1)
 
 loop-holds : tie.Need-loop-holds Inv-loop μ-loop
-loop-holds c = let a = c .before .args in running-none (a .pattern) (stateOf (a .both / 8)) (stateOf (a .both))
+loop-holds c = let a = c .before .before .before .args in running-none (a .pattern) (stateOf (a .both / 8)) (stateOf (a .both))
 
-array-read-symbol : tie.Need-array-read-symbol Inv-loop μ-loop
-array-read-symbol c = omega (arith, c .before .before .lane-of .ensures .1)
+sub-more : tie.Need-sub-more Inv-loop μ-loop
+sub-more c = search needs
 
-sub-symbol : tie.Need-sub-symbol Inv-loop μ-loop
-sub-symbol c = search needs
-
-cast-symbol : tie.Need-cast-symbol Inv-loop μ-loop
-cast-symbol c = search needs
-
-shr-symbol : tie.Need-shr-symbol Inv-loop μ-loop
-shr-symbol c = search needs
+shr-more : tie.Need-shr-more Inv-loop μ-loop
+shr-more c = search needs
 
 add-digit : tie.Need-add-digit Inv-loop μ-loop
 add-digit c = search needs
@@ -55,23 +84,40 @@ element-copy-out-digit c = search needs
 digit-requires : tie.Need-digit-requires Inv-loop μ-loop
 digit-requires c κs = search needs
 
+-- the symbols of both encoders, as a number
+symbols-are : (c : tie.After-wide2 Inv-loop μ-loop) → c .before .wide .result * 32768 + c .wide2 .result ≡ number (tailSymbol (stateOf (c .before .before .before .args .both / 8)) (stateOf (c .before .before .before .args .both))) 0 30
+symbols-are c =
+    let x : ℕ = c .before .before .before .args .both in
+    let e = c .before .before .tails .ensures in
+    ap₂ (λ (a b : ℕ). a * 32768 + b) (c .before .wide .ensures .0 ∙ ap (λ (m : List ℕ). getD m (x / 8 % 8) 0) e) (c .wide2 .ensures .0 ∙ ap (λ (m : List ℕ). getD m (8 + x % 8) 0) e)
+    ∙ tail-number (stateOf (x / 8)) (stateOf x) (x / 8 % 8) (x % 8) (omega arith) (omega arith) (low (x / 8)) (high x)
+  where
+    same : {a b c a' b' c' : ℕ} → a ≡ a' → b ≡ b' → c ≡ c' → _≡_ {A = State} (record { a1 = a; a2 = b; a3 = c }) (record { a1 = a'; a2 = b'; a3 = c' })
+    same p q r = cc
+
+    low : (y : ℕ) → stateOf (y % 8) ≡ stateOf y
+    low y = same (omega arith) (omega arith) (omega arith)
+
+    high : (y : ℕ) → stateOf (8 + y % 8) ≡ stateOf y
+    high y = same (omega arith) (omega arith) (omega arith)
+
 -- how often the symbol is sent
-digit-is : (c : tie.After-digit Inv-loop μ-loop) → c .digit .result ≡ digitAt (c .before .before .before .before .before .args .pattern) (60 + c .before .before .before .loop .k)
+digit-is : (c : tie.After-digit Inv-loop μ-loop) → c .digit .result ≡ digitAt (c .before .before .before .before .before .before .before .args .pattern) (60 + c .before .before .before .loop .k)
 unfolding digitAt
 digit-is c =
     let k : ℕ = c .before .before .before .loop .k in
     let e1 : 12 + k / 5 ≡ (60 + k) / 5 = omega arith in
     let e2 : k % 5 ≡ (60 + k) % 5 = omega arith in
-    c .digit .ensures ∙ ap (λ (m : List ℕ). digit (getD m (12 + k / 5) 0) (k % 5)) (c .before .before .before .before .before .pre .1) ∙ ap₂ (λ (x y : ℕ). digit (getD (entries (c .before .before .before .before .before .args .pattern)) x 0) y) e1 e2
+    c .digit .ensures ∙ ap (λ (m : List ℕ). digit (getD m (12 + k / 5) 0) (k % 5)) (c .before .before .before .before .before .before .before .pre .1) ∙ ap₂ (λ (x y : ℕ). digit (getD (entries (c .before .before .before .before .before .before .before .args .pattern)) x 0) y) e1 e2
 
 more-requires : tie.Need-more-requires Inv-loop μ-loop
 more-requires c κs =
     let l = c .before .before .before .loop in
-    let b = c .before .before .before .before .before in
+    let b = c .before .before .before .before .before .before .before in
     let s : State = stateOf (b .args .both / 8) in
     let t : State = stateOf (b .args .both) in (
       omega arith,
-      omega (arith, digit-is c, tail-few (b .args .pattern) (l .k) (b .pre .0) (c .before .before .loop-test .taken)),
+      omega (arith, digit-is c, tail-few (b .args .pattern) (l .k) (b .pre .0) (omega (arith, c .before .before .loop-test .taken))),
       running-small (b .args .pattern) s t (l .r) (l .k) (b .pre .0) (l .inv),
       running-bits (b .args .pattern) s t (l .r) (l .k) (b .pre .0) (l .inv),
     )
@@ -85,18 +131,18 @@ loop-less c = search needs
 loop-again : tie.Need-loop-again Inv-loop μ-loop
 loop-again c =
     let l = c .before .before .before .before .loop in
-    let b = c .before .before .before .before .before .before in
+    let b = c .before .before .before .before .before .before .before .before in
     let s : State = stateOf (b .args .both / 8) in
     let t : State = stateOf (b .args .both) in
-    let k = c .before .before .before .loop-test .taken in
+    let k : l .k < 30 = omega (arith, c .before .before .before .loop-test .taken) in
     running-more (b .args .pattern) s t (l .r) (c .more .result) (l .k) _ (c .before .digit .result) (l .inv) k
-    (tail-symbol s t (c .before .before .before .before .before .lane-of .result) (c .before .before .before .before .before .lane-of .ensures .0) (l .k) k) (digit-is (c .before)) (c .more .ensures .0) (c .more .ensures .1)
+    (tail-symbol s t _ (symbols-are (c .before .before .before .before .before)) (l .k) k) (digit-is (c .before)) (c .more .ensures .0) (c .more .ensures .1)
 
 returns : tie.Need-returns Inv-loop μ-loop
 returns c =
     let l = c .before .loop in
-    let a = c .before .before .before .args in
-    running-all (a .pattern) (stateOf (a .both / 8)) (stateOf (a .both)) (l .r) (l .k) (l .inv) (c .loop-test .left)
+    let a = c .before .before .before .before .before .args in
+    running-all (a .pattern) (stateOf (a .both / 8)) (stateOf (a .both)) (l .r) (l .k) (l .inv) (omega (arith, c .loop-test .left))
 
 pub run-of-spec : {M : Type 1} → statement M
 run-of-spec =
@@ -104,12 +150,19 @@ run-of-spec =
     (tie.spec
     Inv-loop
     μ-loop
-    lane-of-requires
+    tails-requires
+    mul-wide
+    array-read-wide
+    wide-requires
+    mul-symbols
+    add-wide
+    mul-wide-2
+    array-read-wide-2
+    wide-requires-2
+    add-symbols
     loop-holds
-    array-read-symbol
-    sub-symbol
-    cast-symbol
-    shr-symbol
+    sub-more
+    shr-more
     add-digit
     mul-digit
     element-copy-out-digit
