@@ -19,12 +19,12 @@ pub fn owned(w: &[u8], at: usize) -> Share
     ensures { λ r. ⌜ (r .s ≡ ownStreams (cut table16 (drop at (unpack (now (w .entry)))))) × (r .d ≡ ownSections (cut table16 (drop at (unpack (now (w .entry)))))) × (r .s ≤ 32) × (r .d ≤ 8) ⌝ }
 {
     // Pipe_Width_CUs (table 16)
-    if crate::walk::word_bits(w, at + 6, 10) == 0 {
+    if walk::word_bits(w, at + 6, 10) == 0 {
         return Share { s: 0, d: 0 };
     }
     // Num_STS_1 and Num_Disperser_Sections_1 (table 16)
-    let s = crate::walk::word_bits(w, at + 16, 5) as usize;
-    let d = crate::walk::word_bits(w, at + 21, 3) as usize;
+    let s = walk::word_bits(w, at + 16, 5) as usize;
+    let d = walk::word_bits(w, at + 21, 3) as usize;
     Share { s: s + 1, d: d + 1 }
 }
 
@@ -51,7 +51,7 @@ pub fn tail_owned(w: &[u8], at: usize) -> usize
     ensures { λ r. ⌜ (r ≡ tailOwns (cut table16b (drop at (unpack (now (w .entry)))))) × (r ≤ 1) ⌝ }
 {
     // Pipe_Width_CUs (table 16b)
-    if crate::walk::word_bits(w, at + 7, 9) == 0 {
+    if walk::word_bits(w, at + 7, 9) == 0 {
         return 0;
     }
     1

@@ -17,13 +17,13 @@ fn width_wrong(w: &[u8], at: usize) -> bool
     ensures { λ r. ⌜ r ≡ widthWrong (cut table16 (drop at (unpack (now (w .entry))))) ⌝ }
 {
     // Punct_Pat_ID (table 16)
-    let pattern = crate::walk::word_bits(w, at, 6) as usize;
+    let pattern = walk::word_bits(w, at, 6) as usize;
     if 27 < pattern {
         return false;
     }
     let units = patterns::units(pattern) as u32;
     // Pipe_Width_CUs (table 16)
-    crate::walk::word_bits(w, at + 6, 10) % units != 0
+    walk::word_bits(w, at + 6, 10) % units != 0
 }
 
 // 9: whether one of the p payload pipes at a place has such a width.
@@ -50,7 +50,7 @@ fn taps_at(w: &[u8], at: usize, step: usize, n: usize) -> u32
     let mut k: usize = 0;
     while k < n {
         // Num_Taps_Div2_1 (table 19)
-        taps += (crate::walk::word_bits(w, at + step * k, 4) + 1) * 2;
+        taps += (walk::word_bits(w, at + step * k, 4) + 1) * 2;
         k += 1;
     }
     taps
@@ -62,7 +62,7 @@ fn taps_wrong(w: &[u8], at: usize, sections: usize, step: usize, d: usize) -> bo
     ensures { λ r. ⌜ r ≡ tapsWrong (cut table16 (drop at (unpack (now (w .entry))))) (fieldsAt (now (w .entry)) sections step 4 d) ⌝ }
 {
     // Pipe_Width_CUs (table 16)
-    if crate::walk::word_bits(w, at + 6, 10) == 0 {
+    if walk::word_bits(w, at + 6, 10) == 0 {
         return false;
     }
     taps_at(w, sections, step, d) != 32
@@ -96,7 +96,7 @@ fn id_twice(w: &[u8], at: usize, n: usize) -> bool
     while 0 < i {
         i -= 1;
         // STS_ID (table 18)
-        let id = crate::walk::word_bits(w, at + 16 * i, 8) as usize;
+        let id = walk::word_bits(w, at + 16 * i, 8) as usize;
         if seen[id] {
             return true;
         }

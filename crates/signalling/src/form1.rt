@@ -61,7 +61,7 @@ fn top_set(sheet: &[u8], at: usize, d: usize) -> bool
 {
     let mut k: usize = 0;
     while k < d {
-        if crate::walk::word_bits(sheet, at + 16 * k, 4) != 0 {
+        if walk::word_bits(sheet, at + 16 * k, 4) != 0 {
             return true;
         }
         k += 1;
@@ -75,7 +75,7 @@ fn counts_differ(sheet: &[u8], p: usize, s: usize, d: usize) -> bool
     ensures { λ r. ⌜ r ≡ countFault p s d (sheetLists p s d (unpack (now (sheet .entry)))) ⌝ }
 {
     // Num_Pipes_1 (table 15)
-    if p != crate::walk::word_bits(sheet, 148, 4) as usize {
+    if p != walk::word_bits(sheet, 148, 4) as usize {
         return true;
     }
     // the payload pipes' records (table 16), and before them the tail's (table 16b)
@@ -94,7 +94,7 @@ pub fn judge(sheet: &[u8], p: usize, s: usize, d: usize) -> u8
     let sections = 168 + 48 * p + 16 * s;
     let top = top_set(sheet, sections, d);
     // Sig_Pipe_Ver (table 15)
-    let newer = crate::walk::word_bits(sheet, 96, 4) != 0;
+    let newer = walk::word_bits(sheet, 96, 4) != 0;
     if top {
         return 14;
     }

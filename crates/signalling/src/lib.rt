@@ -3,9 +3,8 @@ mod counts;
 mod faults;
 mod form1;
 mod raster;
-mod reader;
 mod sheets;
-mod walk;
+mod zeros;
 
 ghost use mathlib.Core.Path.{_≡_};
 ghost use lib.ListN.{length};
@@ -32,19 +31,19 @@ fn survey(word: &[u8]) -> Reading
     ensures { λ r. ⌜ told r ≡ surveyed (unpack (now (word .entry))) ⌝ }
 {
     // the six spare bits (01)
-    if crate::walk::any_set(word, 762, 768) {
+    if crate::zeros::any_set(word, 762, 768) {
         return Reading::Refused(2);
     }
     // the parity bits of the CRC-12 over the bits before them (table 14)
-    if crate::walk::word_bits(word, 750, 12) != crc::crc12(word, 0, 750) as u32 {
+    if walk::word_bits(word, 750, 12) != crc::crc12(word, 0, 750) as u32 {
         return Reading::Refused(5);
     }
     // Sig_Pipe_Ver (table 15)
-    if crate::walk::word_bits(word, 0, 4) != 0 {
+    if walk::word_bits(word, 0, 4) != 0 {
         return Reading::Refused(6);
     }
     // Num_Pipes_1 (table 15)
-    let p = crate::walk::word_bits(word, 52, 4) as usize;
+    let p = walk::word_bits(word, 52, 4) as usize;
     // 15 payload pipes alone pass 750 bits, so nothing is read past them
     if 14 < p {
         return Reading::Refused(7);
@@ -58,7 +57,7 @@ fn survey(word: &[u8]) -> Reading
     if 750 < end {
         return Reading::Refused(7);
     }
-    if crate::walk::any_set(word, end, 750) {
+    if crate::zeros::any_set(word, end, 750) {
         return Reading::Refused(8);
     }
     // the places of pipes, streams (table 18) and sections (table 19)

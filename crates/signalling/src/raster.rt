@@ -18,7 +18,7 @@ fn spread(w: &[u8], at: usize, n: usize, out: &mut [u8], to: usize)
 {
     let mut i: usize = 0;
     while i < n {
-        out[to + i] = (crate::walk::word_bits(w, at + i, 1) % 256) as u8;
+        out[to + i] = (walk::word_bits(w, at + i, 1) % 256) as u8;
         i += 1;
     }
 }

@@ -55,7 +55,7 @@ pub fn copy_bytes(w: &[u8], at: usize, n: usize, out: &mut [u8], to: usize)
 {
     let mut k: usize = 0;
     while k < n {
-        out[to + k] = (crate::walk::word_bits(w, at + 8 * k, 8) % 256) as u8;
+        out[to + k] = (walk::word_bits(w, at + 8 * k, 8) % 256) as u8;
         k += 1;
     }
 }
@@ -67,7 +67,7 @@ fn copy_sections(w: &[u8], at: usize, d: usize, out: &mut [u8], to: usize)
 {
     let mut k: usize = 0;
     while k < d {
-        let v = crate::walk::word_bits(w, at + 12 * k, 12);
+        let v = walk::word_bits(w, at + 12 * k, 12);
         out[to + 2 * k] = (v / 256 % 256) as u8;
         out[to + 2 * k + 1] = (v % 256) as u8;
         k += 1;

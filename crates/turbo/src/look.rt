@@ -1,5 +1,4 @@
 // A pattern's tables: what it sends of six bit periods, by the six bits of each encoder and by the registers.
-use crate::weights::Half;
 ghost use mathlib.Core.Path.{_≡_};
 ghost use mathlib.Core.Bool.{true};
 ghost use Prim.Native.Nat.{_+_, _*_, _<_, _≤_};
@@ -57,6 +56,7 @@ fn half_of(t: &mut [u64], at: usize, pattern: usize, h: usize, w: &[u64; 36], al
 }
 
 // A pattern's tables, and how many bits it sends of the six groups of each half.
+// The half h has its tables from 192 h on: 64 entries by the registers, 64 by the six bits of encoder 2, 64 by those of encoder 1.
 pub struct Plan {
     pub look: [u64; 384],
     pub k0: usize,

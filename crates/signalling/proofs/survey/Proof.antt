@@ -21,8 +21,8 @@ use Rattle.crc.proofs.crc12.Reads as crc12-reads
 use Rattle.signalling.proofs.counts.count.Reads as count-reads
 use Rattle.signalling.proofs.counts.tail_owned.Reads as tail-owned-reads
 use Rattle.signalling.proofs.faults.judge.Reads as judge-reads
-use Rattle.signalling.proofs.walk.any_set.Reads as any-set-reads
-use Rattle.signalling.proofs.walk.word_bits.Reads as word-bits-reads
+use Rattle.signalling.proofs.zeros.any_set.Reads as any-set-reads
+use Rattle.walk.proofs.word_bits.Reads as word-bits-reads
 
 -- ---- the places of the tests
 -- the word, and its bits, where the function starts

@@ -11,7 +11,7 @@ use Rattle.signalling.proofs.counts.tail_owned.Statement.{statement}
 use Rattle.signalling.proofs.counts.tail_owned.Tie as tie
 use Rattle.signalling.proofs.counts.tail_owned.Reads as reads
 use Rattle.signalling.proofs.counts.tail_owned.Lts as lts
-use Rattle.signalling.proofs.walk.word_bits.Reads as word-bits-reads
+use Rattle.walk.proofs.word_bits.Reads as word-bits-reads
 
 add-word-bits : tie.Need-add-word-bits
 add-word-bits c = search needs

@@ -11,7 +11,7 @@ use Rattle.signalling.proofs.faults.id_twice.Statement.{statement}
 use Rattle.signalling.proofs.faults.id_twice.Tie as tie
 use Rattle.signalling.proofs.faults.id_twice.Reads as reads
 use Rattle.signalling.proofs.faults.id_twice.Lts as lts
-use Rattle.signalling.proofs.walk.word_bits.Reads as word-bits-reads
+use Rattle.walk.proofs.word_bits.Reads as word-bits-reads
 
 abbrev Inv-loop : tie.InvT-loop
 Inv-loop w at n seen₀ i₀ seen i = (i ≤ n) × Seen (fieldsAt w at 16 8 n) i seen

@@ -16,7 +16,7 @@ use Rattle.signalling.proofs.faults.taps_at.Statement.{statement}
 use Rattle.signalling.proofs.faults.taps_at.Tie as tie
 use Rattle.signalling.proofs.faults.taps_at.Reads as reads
 use Rattle.signalling.proofs.faults.taps_at.Lts as lts
-use Rattle.signalling.proofs.walk.word_bits.Reads as word-bits-reads
+use Rattle.walk.proofs.word_bits.Reads as word-bits-reads
 
 abbrev Inv-loop : tie.InvT-loop
 Inv-loop w at step n taps₀ k₀ taps k = (k ≤ n) × (taps ≡ total tapsOf (take k (fieldsAt w at step 4 n))) × (taps ≤ 32 * k)

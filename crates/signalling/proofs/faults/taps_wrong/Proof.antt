@@ -18,7 +18,7 @@ use Rattle.signalling.proofs.faults.taps_wrong.Tie as tie
 use Rattle.signalling.proofs.faults.taps_wrong.Reads as reads
 use Rattle.signalling.proofs.faults.taps_wrong.Lts as lts
 use Rattle.signalling.proofs.faults.taps_at.Reads as taps-at-reads
-use Rattle.signalling.proofs.walk.word_bits.Reads as word-bits-reads
+use Rattle.walk.proofs.word_bits.Reads as word-bits-reads
 
 add-word-bits : tie.Need-add-word-bits
 add-word-bits c = search needs

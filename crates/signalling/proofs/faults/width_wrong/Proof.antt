@@ -16,7 +16,7 @@ use Rattle.signalling.proofs.faults.width_wrong.Tie as tie
 use Rattle.signalling.proofs.faults.width_wrong.Reads as reads
 use Rattle.signalling.proofs.faults.width_wrong.Lts as lts
 use Rattle.patterns.proofs.units.Reads as units-reads
-use Rattle.signalling.proofs.walk.word_bits.Reads as word-bits-reads
+use Rattle.walk.proofs.word_bits.Reads as word-bits-reads
 
 word-bits-requires : tie.Need-word-bits-requires
 word-bits-requires c κs = search needs

@@ -8,7 +8,7 @@ use Rattle.signalling.proofs.form1.counts_differ.Reads as reads
 use Rattle.signalling.proofs.form1.counts_differ.Lts as lts
 use Rattle.signalling.proofs.counts.count.Reads as count-reads
 use Rattle.signalling.proofs.counts.tail_owned.Reads as tail-owned-reads
-use Rattle.signalling.proofs.walk.word_bits.Reads as word-bits-reads
+use Rattle.walk.proofs.word_bits.Reads as word-bits-reads
 
 word-bits-requires : tie.Need-word-bits-requires
 word-bits-requires c κs = search needs

@@ -17,7 +17,7 @@ use Rattle.signalling.proofs.form1.judge.Lts as lts
 use Rattle.signalling.proofs.faults.judge.Reads as judge-reads
 use Rattle.signalling.proofs.form1.counts_differ.Reads as counts-differ-reads
 use Rattle.signalling.proofs.form1.top_set.Reads as top-set-reads
-use Rattle.signalling.proofs.walk.word_bits.Reads as word-bits-reads
+use Rattle.walk.proofs.word_bits.Reads as word-bits-reads
 
 mul-sections : tie.Need-mul-sections
 mul-sections c = search needs

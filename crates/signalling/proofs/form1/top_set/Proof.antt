@@ -15,7 +15,7 @@ use Rattle.signalling.proofs.form1.top_set.Statement.{statement}
 use Rattle.signalling.proofs.form1.top_set.Tie as tie
 use Rattle.signalling.proofs.form1.top_set.Reads as reads
 use Rattle.signalling.proofs.form1.top_set.Lts as lts
-use Rattle.signalling.proofs.walk.word_bits.Reads as word-bits-reads
+use Rattle.walk.proofs.word_bits.Reads as word-bits-reads
 
 abbrev Inv-loop : tie.InvT-loop
 Inv-loop sheet at d k₀ k = (k ≤ d) × (anySet (fieldsAt sheet at 16 4 d) ≡ any isSet (drop k (fieldsAt sheet at 16 4 d)))

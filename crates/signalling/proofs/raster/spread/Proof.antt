@@ -12,7 +12,7 @@ use Rattle.signalling.proofs.raster.spread.Statement.{statement}
 use Rattle.signalling.proofs.raster.spread.Tie as tie
 use Rattle.signalling.proofs.raster.spread.Reads as reads
 use Rattle.signalling.proofs.raster.spread.Lts as lts
-use Rattle.signalling.proofs.walk.word_bits.Reads as word-bits-reads
+use Rattle.walk.proofs.word_bits.Reads as word-bits-reads
 
 abbrev Inv-loop : tie.InvT-loop
 Inv-loop w at n out₀ to i₀ out i = (i ≤ n) × (length out ≡ length out₀) × (out ≡ paste out₀ to (take n (drop at (unpack w))) i)

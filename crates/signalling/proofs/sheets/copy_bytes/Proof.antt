@@ -12,7 +12,7 @@ use Rattle.signalling.proofs.sheets.copy_bytes.Statement.{statement}
 use Rattle.signalling.proofs.sheets.copy_bytes.Tie as tie
 use Rattle.signalling.proofs.sheets.copy_bytes.Reads as reads
 use Rattle.signalling.proofs.sheets.copy_bytes.Lts as lts
-use Rattle.signalling.proofs.walk.word_bits.Reads as word-bits-reads
+use Rattle.walk.proofs.word_bits.Reads as word-bits-reads
 
 abbrev Inv-loop : tie.InvT-loop
 Inv-loop w at n out₀ to k₀ out k = (k ≤ n) × (length out ≡ length out₀) × (out ≡ paste out₀ to (pack n (drop at (unpack w))) k)

@@ -12,7 +12,7 @@ use Rattle.signalling.proofs.sheets.copy_sections.Statement.{statement}
 use Rattle.signalling.proofs.sheets.copy_sections.Tie as tie
 use Rattle.signalling.proofs.sheets.copy_sections.Reads as reads
 use Rattle.signalling.proofs.sheets.copy_sections.Lts as lts
-use Rattle.signalling.proofs.walk.word_bits.Reads as word-bits-reads
+use Rattle.walk.proofs.word_bits.Reads as word-bits-reads
 
 abbrev Inv-loop : tie.InvT-loop
 Inv-loop w at d out₀ to k₀ out k = (k ≤ d) × (length out ≡ length out₀) × (out ≡ paste out₀ to (sheetSections d (drop at (unpack w))) (2 * k))

@@ -1,4 +1,4 @@
--- `signalling::walk::word_bits` meets its contract: a walk of its MIR, by hand. The `Reader` that `Reader::new` returns is held in a local and passed to `Reader::bits`. All that the proof knows of the two is that each meets its contract.
+-- `walk::word_bits` meets its contract: a walk of its MIR, by hand. The `Reader` that `Reader::new` returns is held in a local and passed to `Reader::bits`. All that the proof knows of the two is that each meets its contract.
 -- The machine value that `Reader::new` returns is stored and passed on as it is. In a local of a body MIR erases the lifetime of the struct's type, so the value is shown to have the type at `erased`: what the struct owns does not say the lifetime's name.
 -- Assumes nothing.
 use mathlib.Core.Path.{_≡_, refl}
@@ -38,21 +38,21 @@ use denote.Triple.Walked.{says, Stays, stay-none, stay-none-slice, walkOf, goes-
 use denote.Exit.{yes}
 use denote.Triple.Clauses.{ensured, lasts}
 use Rattle.bits.specs.Places.{fieldAt}
-use Rattle.signalling.specs.declared.reader.Reader.{Reader}
-use Rattle.signalling.proofs.reader.Reader as T
-use Rattle.signalling.proofs.reader.Reader.Laws as T′
-use Rattle.signalling.proofs.reader.Reader.new as new
-use Rattle.signalling.proofs.reader.Reader.new.Symbol as new-def
-use Rattle.signalling.proofs.reader.Reader.new.Symbol.{name as #signalling·reader·Reader·new}
-use Rattle.signalling.proofs.reader.Reader.new.Met as new-thm
-use Rattle.signalling.proofs.reader.Reader.bits as taken
-use Rattle.signalling.proofs.reader.Reader.bits.Symbol as taken-def
-use Rattle.signalling.proofs.reader.Reader.bits.Symbol.{name as #signalling·reader·Reader·bits}
-use Rattle.signalling.proofs.reader.Reader.bits.Met as taken-thm
-use Rattle.signalling.proofs.walk.word_bits.Key.{name as #signalling·walk·word-bits}
-use Rattle.signalling.proofs.walk.word_bits as word-bits
-use Rattle.signalling.proofs.walk.word_bits.Statement as stated
-use Rattle.signalling.proofs.walk.word_bits.Code as code
+use Rattle.walk.specs.declared.reader.Reader.{Reader}
+use Rattle.walk.proofs.reader.Reader as T
+use Rattle.walk.proofs.reader.Reader.Laws as T′
+use Rattle.walk.proofs.reader.Reader.new as new
+use Rattle.walk.proofs.reader.Reader.new.Symbol as new-def
+use Rattle.walk.proofs.reader.Reader.new.Symbol.{name as #walk·reader·Reader·new}
+use Rattle.walk.proofs.reader.Reader.new.Met as new-thm
+use Rattle.walk.proofs.reader.Reader.bits as taken
+use Rattle.walk.proofs.reader.Reader.bits.Symbol as taken-def
+use Rattle.walk.proofs.reader.Reader.bits.Symbol.{name as #walk·reader·Reader·bits}
+use Rattle.walk.proofs.reader.Reader.bits.Met as taken-thm
+use Rattle.walk.proofs.word_bits.Key.{name as #walk·word-bits}
+use Rattle.walk.proofs.word_bits as word-bits
+use Rattle.walk.proofs.word_bits.Statement as stated
+use Rattle.walk.proofs.word_bits.Code as code
 
 -- the struct's type, over the signature's lifetimes
 abbrev B : Lfts 1 → RattleType
@@ -126,7 +126,7 @@ module _ {M : Type 1} (𝓤 : URA M) (H : Heap 𝓤) (A : Atoms 𝓤) (W : Given
       suffices ! _ (ends-at 𝓤 H A word-bits.ended stayed (word-bits.clauses 𝓤 H A mem run) W (((κ, tt), (q, tt), tt, (s, (p, (n, tt))), at), tt) u t (tt, (tt, (tt, tt))) (tt, (tt, (tt, tt)))) $ says ! e $
       move ! (1 ∷ []) $ frame ! $ nothing ! $ owned ! usize (Is usize) (uint-makes 𝓤 H A W w64) n _ (refl, n-fits) $ fjoin ! $ owned ! usize (Is usize) (uint-makes 𝓤 H A W w64) p _ (refl, p-fits) $ fjoin ! $ move ! (2 ∷ 0 ∷ []) $ fjoin ! $ frame ! $ done !
 
-  module _ (C : Calls 𝓤 H) (Λ : Loops 𝓤 H) (fm : FmC 𝓤 H (W .laws) C) (known-new : Triple 𝓤 (C #signalling·reader·Reader·new) (New 𝓤 H A mem run)) (known-taken : Triple 𝓤 (C #signalling·reader·Reader·bits) (Taken 𝓤 H A mem run)) where
+  module _ (C : Calls 𝓤 H) (Λ : Loops 𝓤 H) (fm : FmC 𝓤 H (W .laws) C) (known-new : Triple 𝓤 (C #walk·reader·Reader·new) (New 𝓤 H A mem run)) (known-taken : Triple 𝓤 (C #walk·reader·Reader·bits) (Taken 𝓤 H A mem run)) where
     walk : Is (ShrSlice (named 0) κ u8) s (v ∷ []) → ent 𝓤 (onEntry 𝓤 H A word-bits.signature (κ, tt) (q, tt) (s, (p, (n, tt))) at) (WpFn 𝓤 H C Λ code.function (v ∷ vint w64 p ∷ vint w64 n ∷ []) Post)
     walk g =
         qed W (raw (onEntry 𝓤 H A word-bits.signature (κ, tt) (q, tt) (s, (p, (n, tt))) at) ∷ []) ∵ enter ! C Λ code.function (v ∷ vint w64 p ∷ vint w64 n ∷ []) _ $
@@ -149,13 +149,13 @@ module _ {M : Type 1} (𝓤 : URA M) (H : Heap 𝓤) (A : Atoms 𝓤) (W : Given
         by ! (exits t u′ (found-there r t e e′)))))))))))))))
 
 module _ {M : Type 1} (𝓤 : URA M) (H : Heap 𝓤) (A : Atoms 𝓤) (W : Given 𝓤 H A) (mem : Memory → SProp 𝓤) (run : Routine → Fun 𝓤) where
-  word-bits-walks : (C : Calls 𝓤 H) (Λ : Loops 𝓤 H) → FmC 𝓤 H (W .laws) C → Triple 𝓤 (C #signalling·reader·Reader·new) (New 𝓤 H A mem run) → Triple 𝓤 (C #signalling·reader·Reader·bits) (Taken 𝓤 H A mem run)
+  word-bits-walks : (C : Calls 𝓤 H) (Λ : Loops 𝓤 H) → FmC 𝓤 H (W .laws) C → Triple 𝓤 (C #walk·reader·Reader·new) (New 𝓤 H A mem run) → Triple 𝓤 (C #walk·reader·Reader·bits) (Taken 𝓤 H A mem run)
       → Walks 𝓤 H A word-bits.ended stayed (WpFn 𝓤 H C Λ code.function) (word-bits.clauses 𝓤 H A mem run)
   word-bits-walks C Λ fm known-new known-taken = walked 𝓤 H A word-bits.ended stayed (word-bits.clauses 𝓤 H A mem run) (WpFn 𝓤 H C Λ code.function) (λ κs. (slice-vals, (uint-vals w64, (uint-vals w64, tt)))) (λ κs. (shr-slice-tells (named 0) (κs .0) u8, (uint-tells w64, (uint-tells w64, tt))))
       (λ κs qs bounds a g are. via 𝓤 _ (fst∗ 𝓤 _ (emp 𝓤)) (walk 𝓤 H A W mem run (κs .0) (qs .0) (a .0) (a .1 .0) (a .1 .1 .0) (are .1 .0 .1) (are .1 .1 .0 .1) C Λ fm known-new known-taken (are .0)))
 
 word-bits-meets : {M : Type 1} (𝓤 : URA M) (H : Heap 𝓤) (A : Atoms 𝓤) (W : Given 𝓤 H A) (mem : Memory → SProp 𝓤) (run : Routine → Fun 𝓤) (𝓣 : Tables 𝓤 H)
-    → Triple 𝓤 (𝓣 .C #signalling·reader·Reader·new) (New 𝓤 H A mem run) → Triple 𝓤 (𝓣 .C #signalling·reader·Reader·bits) (Taken 𝓤 H A mem run)
+    → Triple 𝓤 (𝓣 .C #walk·reader·Reader·new) (New 𝓤 H A mem run) → Triple 𝓤 (𝓣 .C #walk·reader·Reader·bits) (Taken 𝓤 H A mem run)
     → Meets 𝓤 H A word-bits.signature (WpFn 𝓤 H (𝓣 .C) (𝓣 .Λ) code.function) (word-bits.spec 𝓤 H A mem run)
 word-bits-meets 𝓤 H A W mem run 𝓣 known-new known-taken = walk-meets 𝓤 H A word-bits.ended stayed W (goes-none-slice 𝓤 H A W 1 (0 ∷ []) tt (plain (λ _. u8)) yes, (goes-none 𝓤 H A W 1 (λ _. usize) yes (λ κs x f. refl), (goes-none 𝓤 H A W 1 (λ _. usize) yes (λ κs x f. refl), tt))) (word-bits.clauses 𝓤 H A mem run) (WpFn 𝓤 H (𝓣 .C) (𝓣 .Λ) code.function) (WpFn-mono 𝓤 H (W .laws) 𝓣 code.function)
     (word-bits-walks 𝓤 H A W mem run (𝓣 .C) (𝓣 .Λ) (fmOf 𝓤 H (W .laws) 𝓣) known-new known-taken)
@@ -164,7 +164,7 @@ pub word-bits-spec : {M : Type 1} → stated.statement M
 unfolding code.routine tablesOf
 word-bits-spec 𝓤 H 𝓜 𝓖 𝓡 =
     entered 𝓤 H (tripleOf 𝓤 H (𝓖 .A) word-bits.signature (word-bits.spec 𝓤 H (𝓖 .A) (𝓜 .mem) (𝓡 .run)))
-    (tables 𝓤 H 𝓜 𝓡 code.env .C) (tables 𝓤 H 𝓜 𝓡 code.env .Λ) #signalling·walk·word-bits code.function (code.unfolded 𝓤 H 𝓜 𝓡)
+    (tables 𝓤 H 𝓜 𝓡 code.env .C) (tables 𝓤 H 𝓜 𝓡 code.env .Λ) #walk·word-bits code.function (code.unfolded 𝓤 H 𝓜 𝓡)
     (word-bits-meets 𝓤 H (𝓖 .A) (givenOf 𝓤 H 𝓜 𝓖) (𝓜 .mem) (𝓡 .run) (tablesOf 𝓤 H 𝓜 (tables 𝓤 H 𝓜 𝓡 code.env))
-    (cited 𝓤 H (New 𝓤 H (𝓖 .A) (𝓜 .mem) (𝓡 .run)) 𝓜 𝓡 code.env #signalling·reader·Reader·new new-def.routine code.calls-signalling·reader·Reader·new (new-thm.met 𝓤 H 𝓜 𝓖 𝓡))
-    (cited 𝓤 H (Taken 𝓤 H (𝓖 .A) (𝓜 .mem) (𝓡 .run)) 𝓜 𝓡 code.env #signalling·reader·Reader·bits taken-def.routine code.calls-signalling·reader·Reader·bits (taken-thm.met 𝓤 H 𝓜 𝓖 𝓡)))
+    (cited 𝓤 H (New 𝓤 H (𝓖 .A) (𝓜 .mem) (𝓡 .run)) 𝓜 𝓡 code.env #walk·reader·Reader·new new-def.routine code.calls-walk·reader·Reader·new (new-thm.met 𝓤 H 𝓜 𝓖 𝓡))
+    (cited 𝓤 H (Taken 𝓤 H (𝓖 .A) (𝓜 .mem) (𝓡 .run)) 𝓜 𝓡 code.env #walk·reader·Reader·bits taken-def.routine code.calls-walk·reader·Reader·bits (taken-thm.met 𝓤 H 𝓜 𝓖 𝓡)))

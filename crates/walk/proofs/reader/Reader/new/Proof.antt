@@ -1,4 +1,4 @@
--- `signalling::reader::Reader::new` meets its contract: a walk of its MIR, by hand. A `Reader` is made of the word and the place passed, in the result's local.
+-- `walk::reader::Reader::new` meets its contract: a walk of its MIR, by hand. A `Reader` is made of the word and the place passed, in the result's local.
 -- A `&[u8]` is Copy, so what it owns is had twice: once for word at exit, and once inside the result, beside the facts of at.
 -- Assumes nothing.
 use mathlib.Core.Path.{refl}
@@ -34,13 +34,13 @@ use denote.Triple.Spec.{Meets, tripleOf}
 use denote.Triple.Table.{entered}
 use denote.Triple.Walked.{says, Stays, stay-none, stay-none-slice, walkOf, goes-none, goes-none-slice, Walks, ends-at, walked, walk-meets}
 use denote.Exit.{yes}
-use Rattle.signalling.specs.declared.reader.Reader.{Reader}
-use Rattle.signalling.proofs.reader.Reader as T
-use Rattle.signalling.proofs.reader.Reader.Laws as T′
-use Rattle.signalling.proofs.reader.Reader.new.Key.{name as #signalling·reader·Reader·new}
-use Rattle.signalling.proofs.reader.Reader.new as new
-use Rattle.signalling.proofs.reader.Reader.new.Statement as stated
-use Rattle.signalling.proofs.reader.Reader.new.Code as code
+use Rattle.walk.specs.declared.reader.Reader.{Reader}
+use Rattle.walk.proofs.reader.Reader as T
+use Rattle.walk.proofs.reader.Reader.Laws as T′
+use Rattle.walk.proofs.reader.Reader.new.Key.{name as #walk·reader·Reader·new}
+use Rattle.walk.proofs.reader.Reader.new as new
+use Rattle.walk.proofs.reader.Reader.new.Statement as stated
+use Rattle.walk.proofs.reader.Reader.new.Code as code
 
 abbrev stayed : Stays (new.ended .signature .params) (new.ended .kept)
 stayed = (stay-none-slice (0 ∷ []) tt (plain (λ _. u8)) yes, (stay-none (λ _. usize) yes, tt))
@@ -94,5 +94,5 @@ pub new-spec : {M : Type 1} → stated.statement M
 unfolding code.routine tablesOf
 new-spec 𝓤 H 𝓜 𝓖 𝓡 =
     entered 𝓤 H (tripleOf 𝓤 H (𝓖 .A) new.signature (new.spec 𝓤 H (𝓖 .A) (𝓜 .mem) (𝓡 .run)))
-    (tables 𝓤 H 𝓜 𝓡 code.env .C) (tables 𝓤 H 𝓜 𝓡 code.env .Λ) #signalling·reader·Reader·new code.function (code.unfolded 𝓤 H 𝓜 𝓡)
+    (tables 𝓤 H 𝓜 𝓡 code.env .C) (tables 𝓤 H 𝓜 𝓡 code.env .Λ) #walk·reader·Reader·new code.function (code.unfolded 𝓤 H 𝓜 𝓡)
     (new-meets 𝓤 H (𝓖 .A) (givenOf 𝓤 H 𝓜 𝓖) (𝓜 .mem) (𝓡 .run) (tablesOf 𝓤 H 𝓜 (tables 𝓤 H 𝓜 𝓡 code.env)))

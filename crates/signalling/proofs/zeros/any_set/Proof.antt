@@ -1,4 +1,4 @@
--- `signalling::walk::any_set` meets its contract: what is asked of the whole is asked of what is left. Assumes nothing.
+-- `signalling::zeros::any_set` meets its contract: what is asked of the whole is asked of what is left. Assumes nothing.
 use Prim.Native.Nat.{ℕ, _+_, _-_, _*_, _≤_, _<_}
 use mathlib.Core.Path.{_≡_, refl, sym, ap, _∙_}
 use lib.ListN.{take, drop}
@@ -11,11 +11,11 @@ use lib.Seq.{slice}
 use Rattle.ground.specs.Choice.{any}
 use Rattle.ground.proofs.Choice.{any-found, any-more, any-done}
 use Rattle.description.specs.Tests.{isSet, anySet}
-use Rattle.signalling.proofs.walk.any_set.Statement.{statement}
-use Rattle.signalling.proofs.walk.any_set.Tie as tie
-use Rattle.signalling.proofs.walk.any_set.Reads as reads
-use Rattle.signalling.proofs.walk.any_set.Lts as lts
-use Rattle.signalling.proofs.walk.word_bits.Reads as word-bits-reads
+use Rattle.signalling.proofs.zeros.any_set.Statement.{statement}
+use Rattle.signalling.proofs.zeros.any_set.Tie as tie
+use Rattle.signalling.proofs.zeros.any_set.Reads as reads
+use Rattle.signalling.proofs.zeros.any_set.Lts as lts
+use Rattle.walk.proofs.word_bits.Reads as word-bits-reads
 
 abbrev Inv-loop : tie.InvT-loop
 Inv-loop word from to i₀ i = (i ≤ to) × (anySet (slice from to (unpack word)) ≡ any isSet (drop i (take to (unpack word))))

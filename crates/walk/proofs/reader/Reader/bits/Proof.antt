@@ -1,4 +1,4 @@
--- `signalling::reader::Reader::bits` meets its contract: a walk of its MIR, by hand. The reader is taken apart, and `bits::field` is called on the word, the place and the width. All that the proof knows of `field` is that it meets its contract.
+-- `walk::reader::Reader::bits` meets its contract: a walk of its MIR, by hand. The reader is taken apart, and `bits::field` is called on the word, the place and the width. All that the proof knows of `field` is that it meets its contract.
 -- The struct is Copy: what it owns is had twice, one copy is kept whole for the exit, and of the other what word owns goes to the callee, beside the lifetime's token, which comes back.
 -- Assumes nothing.
 use mathlib.Core.Path.{_≡_, refl}
@@ -43,17 +43,17 @@ use denote.Triple.Walked.{says, Stays, stay-none, walkOf, goes-none, Walks, ends
 use denote.Exit.{yes}
 use denote.Triple.Clauses.{ensured, lasts}
 use Rattle.bits.specs.Places.{fieldAt}
-use Rattle.signalling.specs.declared.reader.Reader.{Reader}
-use Rattle.signalling.proofs.reader.Reader as T
-use Rattle.signalling.proofs.reader.Reader.Laws as T′
+use Rattle.walk.specs.declared.reader.Reader.{Reader}
+use Rattle.walk.proofs.reader.Reader as T
+use Rattle.walk.proofs.reader.Reader.Laws as T′
 use Rattle.bits.proofs.field as field
 use Rattle.bits.proofs.field.Symbol as field-def
 use Rattle.bits.proofs.field.Symbol.{name as #bits·field}
 use Rattle.bits.proofs.field.Met as field-thm
-use Rattle.signalling.proofs.reader.Reader.bits.Key.{name as #signalling·reader·Reader·bits}
-use Rattle.signalling.proofs.reader.Reader.bits as taken
-use Rattle.signalling.proofs.reader.Reader.bits.Statement as stated
-use Rattle.signalling.proofs.reader.Reader.bits.Code as code
+use Rattle.walk.proofs.reader.Reader.bits.Key.{name as #walk·reader·Reader·bits}
+use Rattle.walk.proofs.reader.Reader.bits as taken
+use Rattle.walk.proofs.reader.Reader.bits.Statement as stated
+use Rattle.walk.proofs.reader.Reader.bits.Code as code
 
 -- the struct's type, over the signature's lifetimes
 abbrev B : Lfts 1 → RattleType
@@ -161,6 +161,6 @@ pub bits-spec : {M : Type 1} → stated.statement M
 unfolding code.routine tablesOf
 bits-spec 𝓤 H 𝓜 𝓖 𝓡 =
     entered 𝓤 H (tripleOf 𝓤 H (𝓖 .A) taken.signature (taken.spec 𝓤 H (𝓖 .A) (𝓜 .mem) (𝓡 .run)))
-    (tables 𝓤 H 𝓜 𝓡 code.env .C) (tables 𝓤 H 𝓜 𝓡 code.env .Λ) #signalling·reader·Reader·bits code.function (code.unfolded 𝓤 H 𝓜 𝓡)
+    (tables 𝓤 H 𝓜 𝓡 code.env .C) (tables 𝓤 H 𝓜 𝓡 code.env .Λ) #walk·reader·Reader·bits code.function (code.unfolded 𝓤 H 𝓜 𝓡)
     (taken-meets 𝓤 H (𝓖 .A) (givenOf 𝓤 H 𝓜 𝓖) (𝓜 .mem) (𝓡 .run) (tablesOf 𝓤 H 𝓜 (tables 𝓤 H 𝓜 𝓡 code.env))
     (cited 𝓤 H (Field 𝓤 H (𝓖 .A) (𝓜 .mem) (𝓡 .run)) 𝓜 𝓡 code.env #bits·field field-def.routine code.calls-bits·field (field-thm.met 𝓤 H 𝓜 𝓖 𝓡)))
