@@ -12,7 +12,7 @@ use Rattle.bits.specs.declared.wide.Wide.{Wide}
 unfoldable pub stored : List ℕ → ℕ → ℕ → List ℕ
 stored out at x = set (set (set (set out at (x / 16777216 % 256)) (at + 1) (x / 65536 % 256)) (at + 2) (x / 256 % 256)) (at + 3) (x % 256)
 
--- the bits that wait, with the k bits of v behind them
+-- the bits that wait, with the k bits of v behind them (of a v of more bits the low 32 are added all the same)
 abbrev pub widened : Wide → ℕ → ℕ → ℕ
 widened s v k = s .acc % 4294967296 * 2 ^ k + v % 4294967296
 
