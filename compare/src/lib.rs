@@ -10,6 +10,7 @@ pub mod fuzz;
 pub mod inputs;
 pub mod lent;
 pub mod opl;
+pub mod prototypes;
 pub mod rng;
 pub mod second;
 pub mod vectors;
