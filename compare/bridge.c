@@ -14,23 +14,23 @@
 #include <stdlib.h>
 #include <string.h>
 
-#include "opl.h"
+/* the functions, as build.rs reads them from opl.h */
+#include "calls.h"
 
-enum { NAME = 32, NUMBERS = 4, BUFFERS = 16 };
+enum { NAME = 32 };
 
-struct buffer {
-    uint8_t *memory;
+/* All of a buffer, what stands around the lent part too. */
+struct memory {
+    uint8_t *bytes;
     size_t size;
-    void *lent;
-    size_t n;
 };
 
 struct call {
     char name[NAME + 1];
     size_t numbers;
     size_t buffers;
-    uint32_t number[NUMBERS];
-    struct buffer buffer[BUFFERS];
+    struct arguments arguments;
+    struct memory memory[BUFFERS];
 };
 
 static void fail(const char *why)
@@ -52,16 +52,16 @@ static uint32_t take_number(void)
     return (uint32_t)b[3] << 24 | (uint32_t)b[2] << 16 | (uint32_t)b[1] << 8 | b[0];
 }
 
-static void take_buffer(struct buffer *b)
+static void take_buffer(struct memory *m, struct buffer *b)
 {
-    b->size = take_number();
+    m->size = take_number();
     size_t begins = take_number();
     b->n = take_number();
-    b->memory = malloc(b->size);
-    if (b->memory == NULL || begins > b->size)
+    m->bytes = malloc(m->size);
+    if (m->bytes == NULL || begins > m->size)
         fail("a buffer does not fit");
-    b->lent = b->memory + begins;
-    take(b->memory, b->size);
+    b->lent = m->bytes + begins;
+    take(m->bytes, m->size);
 }
 
 static void give(const void *from, size_t n)
@@ -84,35 +84,19 @@ static bool take_call(struct call *c)
     if (c->numbers > NUMBERS || c->buffers > BUFFERS)
         fail("a call has too many arguments");
     for (size_t i = 0; i < c->numbers; i++)
-        c->number[i] = take_number();
+        c->arguments.number[i] = take_number();
     for (size_t i = 0; i < c->buffers; i++)
-        take_buffer(&c->buffer[i]);
+        take_buffer(&c->memory[i], &c->arguments.buffer[i]);
     return true;
-}
-
-static bool is(const struct call *c, const char *name, size_t numbers, size_t buffers)
-{
-    return strcmp(c->name, name) == 0 && c->numbers == numbers && c->buffers == buffers;
 }
 
 static uint8_t refusal_of(const struct call *c)
 {
-    const struct buffer *b = c->buffer;
-    if (is(c, "opl_preamble", 0, 1))
-        return opl_preamble(b[0].lent, b[0].n);
-    if (is(c, "opl_signalling_read", 0, 2))
-        return opl_signalling_read(b[0].lent, b[0].n, b[1].lent, b[1].n);
-    if (is(c, "opl_signalling_write", 0, 2))
-        return opl_signalling_write(b[0].lent, b[0].n, b[1].lent, b[1].n);
-    if (is(c, "opl_payload_write", 2, 2))
-        return opl_payload_write(c->number[0], (uint8_t)c->number[1], b[0].lent, b[0].n, b[1].lent,
-                                 b[1].n);
-    if (is(c, "opl_payload_read", 0, 2))
-        return opl_payload_read(b[0].lent, b[0].n, b[1].lent, b[1].n);
-    if (is(c, "opl_encode", 1, 2))
-        return opl_encode(c->number[0], b[0].lent, b[0].n, b[1].lent, b[1].n);
-    if (is(c, "opl_place", 1, 2))
-        return opl_place(c->number[0], b[0].lent, b[0].n, b[1].lent, b[1].n);
+    for (int i = 0; i < FUNCTIONS; i++) {
+        const struct function *f = &functions[i];
+        if (strcmp(c->name, f->name) == 0 && c->numbers == f->numbers && c->buffers == f->buffers)
+            return f->call(&c->arguments);
+    }
     fail("a function is not there, or has other arguments");
     return 0;
 }
@@ -124,8 +108,8 @@ int main(void)
         uint8_t refusal = refusal_of(&c);
         give(&refusal, 1);
         for (size_t i = 0; i < c.buffers; i++) {
-            give(c.buffer[i].memory, c.buffer[i].size);
-            free(c.buffer[i].memory);
+            give(c.memory[i].bytes, c.memory[i].size);
+            free(c.memory[i].bytes);
         }
         if (fflush(stdout) != 0)
             fail("an answer was cut short");

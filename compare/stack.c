@@ -15,72 +15,14 @@
 #include <stdlib.h>
 #include <string.h>
 
-#include "opl.h"
+/* the functions, as build.rs reads them from opl.h */
+#include "calls.h"
 
 static void fail(const char *why)
 {
     fprintf(stderr, "stack: %s\n", why);
     exit(EXIT_FAILURE);
 }
-
-/* The arguments of a call: numbers, what it may read, what it may write. */
-struct call {
-    uint32_t number[2];
-    const void *from;
-    size_t n;
-    void *to;
-    size_t m;
-};
-
-static uint8_t preamble(const struct call *c)
-{
-    return opl_preamble(c->to, c->m);
-}
-
-static uint8_t signalling_read(const struct call *c)
-{
-    return opl_signalling_read(c->from, c->n, c->to, c->m);
-}
-
-static uint8_t signalling_write(const struct call *c)
-{
-    return opl_signalling_write(c->from, c->n, c->to, c->m);
-}
-
-static uint8_t payload_write(const struct call *c)
-{
-    return opl_payload_write(c->number[0], (uint8_t)c->number[1], c->from, c->n, c->to, c->m);
-}
-
-static uint8_t payload_read(const struct call *c)
-{
-    return opl_payload_read(c->from, c->n, c->to, c->m);
-}
-
-static uint8_t encode(const struct call *c)
-{
-    return opl_encode(c->number[0], c->from, c->n, c->to, c->m);
-}
-
-static uint8_t place(const struct call *c)
-{
-    return opl_place(c->number[0], c->from, c->n, c->to, c->m);
-}
-
-enum { PREAMBLE, SIGNALLING_READ, SIGNALLING_WRITE, PAYLOAD_WRITE, PAYLOAD_READ, ENCODE, PLACE, FUNCTIONS };
-
-static const struct function {
-    const char *name;
-    uint8_t (*call)(const struct call *c);
-} functions[FUNCTIONS] = {
-    [PREAMBLE] = {"opl_preamble", preamble},
-    [SIGNALLING_READ] = {"opl_signalling_read", signalling_read},
-    [SIGNALLING_WRITE] = {"opl_signalling_write", signalling_write},
-    [PAYLOAD_WRITE] = {"opl_payload_write", payload_write},
-    [PAYLOAD_READ] = {"opl_payload_read", payload_read},
-    [ENCODE] = {"opl_encode", encode},
-    [PLACE] = {"opl_place", place},
-};
 
 /* The most bytes that a call took, by function and refusal number. */
 static size_t most[FUNCTIONS][UINT8_MAX + 1];
@@ -108,7 +50,7 @@ __asm__(".text\n"
 
 /* The call that is due, and its answer. */
 static int function;
-static const struct call *arguments;
+static const struct arguments *arguments;
 static uint8_t refusal;
 
 static void make_call(void)
@@ -128,10 +70,10 @@ static size_t bytes_taken(void)
     return (WORDS - lowest) * sizeof stack[0];
 }
 
-static uint8_t measure(int which, struct call c)
+static uint8_t measure(int which, struct arguments a)
 {
     function = which;
-    arguments = &c;
+    arguments = &a;
     make_call();
     call_on(stack + WORDS, make_call);
     size_t bytes = bytes_taken();
@@ -143,8 +85,8 @@ static uint8_t measure(int which, struct call c)
 static void measure_preamble(void)
 {
     static uint8_t out[OPL_PREAMBLE_BYTES];
-    measure(PREAMBLE, (struct call){.to = out, .m = sizeof out});
-    measure(PREAMBLE, (struct call){.to = out, .m = sizeof out - 1});
+    measure(PREAMBLE, (struct arguments){.buffer = {{out, sizeof out}}});
+    measure(PREAMBLE, (struct arguments){.buffer = {{out, sizeof out - 1}}});
 }
 
 static void flip(uint8_t *bytes, size_t bit)
@@ -185,18 +127,18 @@ static void seal(uint8_t *word, struct crc crc)
 /* Has a word read as it is, at a wrong length, and with each bit from crc.from on flipped, sealed again or not. */
 static void measure_reading(int which, struct crc crc, uint8_t *word, size_t n, void *to, size_t m)
 {
-    struct call c = {.from = word, .n = n, .to = to, .m = m};
-    if (measure(which, c) != OPL_ACCEPTED)
+    struct arguments a = {.buffer = {{word, n}, {to, m}}};
+    if (measure(which, a) != OPL_ACCEPTED)
         fail("a word that was written is not read");
-    c.m--;
-    measure(which, c);
-    c.m++;
+    a.buffer[1].n--;
+    measure(which, a);
+    a.buffer[1].n++;
     for (size_t i = crc.from; i < 8 * n; i++) {
         flip(word, i);
-        measure(which, c);
+        measure(which, a);
         if (i < crc.to) {
             seal(word, crc);
-            measure(which, c);
+            measure(which, a);
         }
         flip(word, i);
         seal(word, crc);
@@ -207,15 +149,15 @@ static void measure_reading(int which, struct crc crc, uint8_t *word, size_t n, 
 static void measure_sheet(uint8_t *sheet, size_t n)
 {
     static uint8_t word[OPL_SIGNALLING_BYTES], room[OPL_SHEET_ROOM];
-    struct call c = {.from = sheet, .n = n, .to = word, .m = sizeof word};
-    if (measure(SIGNALLING_WRITE, c) == OPL_ACCEPTED)
+    struct arguments a = {.buffer = {{sheet, n}, {word, sizeof word}}};
+    if (measure(SIGNALLING_WRITE, a) == OPL_ACCEPTED)
         measure_reading(SIGNALLING_READ, signalling_crc, word, sizeof word, room, sizeof room);
-    c.m--;
-    measure(SIGNALLING_WRITE, c);
-    c.m++;
+    a.buffer[1].n--;
+    measure(SIGNALLING_WRITE, a);
+    a.buffer[1].n++;
     for (size_t i = 0; i < 8 * n; i++) {
         flip(sheet, i);
-        measure(SIGNALLING_WRITE, c);
+        measure(SIGNALLING_WRITE, a);
         flip(sheet, i);
     }
 }
@@ -236,10 +178,12 @@ static void measure_payload(void)
     static uint8_t payload[OPL_PAYLOAD_BYTES], word[OPL_PAYLOAD_WORD_BYTES], header[OPL_PAYLOAD_HEADER_BYTES];
     memset(payload, 0x5A, sizeof payload);
     for (uint32_t type = 0; type < 3; type++) {
-        struct call c = {.number = {type, 9}, .from = payload, .to = word, .m = sizeof word};
-        for (c.n = 0; c.n <= sizeof payload; c.n += sizeof payload)
-            if (measure(PAYLOAD_WRITE, c) == OPL_ACCEPTED)
+        struct arguments a = {{type, 9}, {{payload, 0}, {word, sizeof word}}};
+        for (size_t n = 0; n <= sizeof payload; n += sizeof payload) {
+            a.buffer[0].n = n;
+            if (measure(PAYLOAD_WRITE, a) == OPL_ACCEPTED)
                 measure_reading(PAYLOAD_READ, payload_crc, word, sizeof word, header, sizeof header);
+        }
     }
 }
 
@@ -269,8 +213,8 @@ static void measure_coding(void)
     for (uint32_t pattern = 0; pattern <= PATTERNS; pattern++)
         for (int b = 0; b < BLOCKS; b++)
             for (int i = 0; i < LENGTHS; i++) {
-                struct call coding = {{pattern}, infoword, blocks[b].infoword, codeword, codewords[i]};
-                struct call placing = {{pattern}, values, 8 * codewords[i], lane, blocks[b].lane};
+                struct arguments coding = {{pattern}, {{infoword, blocks[b].infoword}, {codeword, codewords[i]}}};
+                struct arguments placing = {{pattern}, {{values, 8 * codewords[i]}, {lane, blocks[b].lane}}};
                 encoded += measure(ENCODE, coding) == OPL_ACCEPTED;
                 placed += measure(PLACE, placing) == OPL_ACCEPTED;
             }
@@ -282,7 +226,8 @@ static void measure_spare(void)
 {
     static uint8_t word[OPL_SIGNALLING_BYTES];
     word[sizeof word - 1] = 1;
-    measure(ENCODE, (struct call){{0}, word, sizeof word, codeword, OPL_SIGNALLING_CODEWORD_BYTES});
+    struct arguments a = {{0}, {{word, sizeof word}, {codeword, OPL_SIGNALLING_CODEWORD_BYTES}}};
+    measure(ENCODE, a);
 }
 
 static void fill(void)

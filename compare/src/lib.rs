@@ -6,6 +6,7 @@
 #[cfg(not(bridged))]
 pub mod bench;
 mod call;
+pub mod element;
 pub mod fuzz;
 pub mod inputs;
 pub mod lent;

@@ -1,11 +1,11 @@
 //! The fuzz: it finds no difference and reaches every refusal of every function; and it notices answers
 //! that are wrong, which are made so here.
 
+use compare::element::Element;
 use compare::fuzz::{
     Encode, Entry, Fuzz, InputOf, Listed, PayloadRead, PayloadWrite, Place, Preamble,
     SignallingRead, SignallingWrite, Tally, ENTRIES,
 };
-use compare::lent::Element;
 use compare::rng::Rng;
 use std::marker::PhantomData;
 use std::process::{Command, Output};

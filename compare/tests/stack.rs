@@ -50,6 +50,8 @@ fn x86_64(task: &str, words: &[PathBuf]) -> String {
         .arg(file("tools/x86-64.sh"))
         .arg(task)
         .args(words)
+        // where build.rs writes calls.h
+        .env("CPATH", env!("OUT_DIR"))
         .output()
         .expect("a shell starts");
     let said = String::from_utf8_lossy(&output.stderr);

@@ -1,7 +1,7 @@
 //! A row of the bench: an exported function and its counterpart in the second implementation, on inputs of
 //! one kind.
 
-use crate::lent::Element;
+use crate::element::Element;
 use crate::rng::Rng;
 use std::fmt::{Display, Formatter};
 use std::hint::black_box;
@@ -63,13 +63,13 @@ pub trait Row {
 }
 
 /// A row whose calls write `length` elements. `second` leaves what it makes in the vector that it is
-/// given, which has that length at first.
+/// given, which has that length at first. What else a function reads or writes, its two sides keep.
 pub fn row<'a, R: Element + 'a, W: Element + 'a>(
     title: Title,
     length: usize,
     input: impl Fn(&mut Rng) -> Vec<R> + 'a,
-    library: impl Fn(&[R], &mut [W]) -> u8 + 'a,
-    second: impl Fn(&[R], &mut Vec<W>) -> Result<(), u8> + 'a,
+    library: impl FnMut(&[R], &mut [W]) -> u8 + 'a,
+    second: impl FnMut(&[R], &mut Vec<W>) -> Result<(), u8> + 'a,
 ) -> Box<dyn Row + 'a> {
     let zeros = vec![W::from_low_bits(0); length];
     Box::new(Pair {
@@ -101,8 +101,8 @@ where
     R: Element,
     W: Element,
     I: Fn(&mut Rng) -> Vec<R>,
-    L: Fn(&[R], &mut [W]) -> u8,
-    S: Fn(&[R], &mut Vec<W>) -> Result<(), u8>,
+    L: FnMut(&[R], &mut [W]) -> u8,
+    S: FnMut(&[R], &mut Vec<W>) -> Result<(), u8>,
 {
     fn title(&self) -> &Title {
         &self.title
@@ -137,8 +137,8 @@ where
 impl<R, W, I, L, S> Pair<R, W, I, L, S>
 where
     W: Element,
-    L: Fn(&[R], &mut [W]) -> u8,
-    S: Fn(&[R], &mut Vec<W>) -> Result<(), u8>,
+    L: FnMut(&[R], &mut [W]) -> u8,
+    S: FnMut(&[R], &mut Vec<W>) -> Result<(), u8>,
 {
     fn call_library(&mut self, times: usize) {
         for _ in 0..times {

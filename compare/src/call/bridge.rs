@@ -5,6 +5,9 @@ use std::cell::RefCell;
 use std::io::{Read, Write};
 use std::process::{Child, Command, Stdio};
 
+/// The bytes in which a function's name is said.
+const NAME: usize = 32;
+
 /// The running program; each thread has its own.
 struct Bridge(Child);
 
@@ -52,7 +55,8 @@ impl Drop for Bridge {
 
 pub fn call(name: &str, numbers: &[u32], lent: &mut [&mut dyn Memory]) -> u8 {
     let mut said = name.as_bytes().to_vec();
-    said.resize(32, 0);
+    assert!(said.len() <= NAME, "{name} is too long a name");
+    said.resize(NAME, 0);
     put(&mut said, numbers.len());
     put(&mut said, lent.len());
     for number in numbers {

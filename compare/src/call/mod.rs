@@ -19,4 +19,6 @@ pub trait Memory {
     fn begins(&self) -> usize;
     /// The length of the lent part, in elements.
     fn length(&self) -> usize;
+    /// Hands over what a call wrote that gave this number; or says what the call did that it must not.
+    fn take_back(&mut self, refusal: u8) -> Result<(), String>;
 }

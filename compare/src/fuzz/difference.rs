@@ -1,7 +1,7 @@
 //! What a case that does not end well has to say.
 
 use super::{Entry, Input, InputOf};
-use crate::lent::Element;
+use crate::element::Element;
 use std::any::Any;
 use std::fmt::{self, Display, Formatter};
 use std::mem::size_of;

@@ -1,8 +1,8 @@
 //! The seven exported functions.
 
 use super::{Entry, Input, InputOf};
+use crate::element::Element;
 use crate::inputs::{self, mostly, number_past, wrong_length};
-use crate::lent::Element;
 use crate::opl;
 use crate::rng::Rng;
 use crate::second::{payload, preamble, refusal, signalling, turbo};

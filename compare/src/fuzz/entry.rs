@@ -2,7 +2,7 @@
 //! the second implementation are called.
 
 use super::{Trial, Verdict};
-use crate::lent::Element;
+use crate::element::Element;
 use crate::rng::Rng;
 use std::fmt::Debug;
 

@@ -2,7 +2,8 @@
 
 use super::difference::{caught, hex};
 use super::{Entry, Fault, InputOf};
-use crate::lent::{first_difference, Element};
+use crate::element::Element;
+use crate::lent::first_difference;
 use crate::rng::Rng;
 
 /// A case under way.
