@@ -1,17 +1,15 @@
 //! The fuzz: it finds no difference and reaches every refusal of every function; and it notices answers
 //! that are wrong, which are made so here.
 
-use compare::element::Element;
-use compare::fuzz::{
-    Encode, Entry, Fuzz, InputOf, Listed, PayloadRead, PayloadWrite, Place, Preamble,
-    SignallingRead, SignallingWrite, Tally, ENTRIES,
-};
+use compare::calls::{every_entry, Argument, Call, Preamble};
+use compare::element::Buffer;
+use compare::fuzz::{entries, Entry, Fuzz, Listed, Tally, Visitor};
 use compare::rng::Rng;
 use std::marker::PhantomData;
 use std::process::{Command, Output};
 
 /// 01's orders.
-const ORDERS: [(&str, &[u8]); 7] = [
+const ORDERS: &[(&str, &[u8])] = &[
     ("opl_preamble", &[1]),
     ("opl_signalling_read", &[1, 2, 5, 6, 7, 8, 9, 10, 11]),
     ("opl_signalling_write", &[1, 12, 14, 6, 13, 7, 9, 10, 11]),
@@ -27,13 +25,14 @@ fn every_function_is_called_and_gives_every_number_of_its_order() {
     assert!(run.is_well(), "{run}");
     assert_eq!(run.cases, 600);
     for (name, order) in ORDERS {
-        for number in 0..=16 {
+        for number in 0..=u8::MAX {
             let due = number == 0 || order.contains(&number);
             let met = run.tally.count(name, number) > 0;
             assert_eq!(met, due, "{name}, {number}\n{run}");
         }
     }
-    assert_eq!(ENTRIES.map(|entry| (entry.name, entry.order)), ORDERS);
+    let listed = entries().into_iter().map(|entry| (entry.name, entry.order));
+    assert_eq!(listed.collect::<Vec<_>>(), ORDERS);
 }
 
 #[test]
@@ -42,109 +41,144 @@ fn every_declared_function_is_called() {
     let declared = header
         .lines()
         .filter_map(|line| line.strip_prefix("uint8_t ")?.split('(').next());
-    assert!(declared.eq(ENTRIES.map(|entry| entry.name)));
+    assert!(declared.eq(entries().iter().map(|entry| entry.name)));
 }
 
 /// A change to an entry's answers.
-trait Change {
-    fn library<E: Entry>(input: &InputOf<E>, written: &mut [E::Written]) -> u8 {
-        E::library(input, written)
+trait Change: Clone {
+    fn library<E: Entry>(call: &mut E) -> u8 {
+        call.library()
     }
 
-    fn second<E: Entry>(input: &InputOf<E>) -> Result<Vec<E::Written>, u8> {
-        E::second(input)
+    fn second<E: Entry>(call: &mut E) -> Result<(), u8> {
+        call.second()
     }
 }
 
 /// The last thing that is written is another.
+#[derive(Clone)]
 struct OtherWritten;
 
 impl Change for OtherWritten {
-    fn second<E: Entry>(input: &InputOf<E>) -> Result<Vec<E::Written>, u8> {
-        let mut written = E::second(input)?;
-        let last = written.last_mut().expect("something is written");
-        let other = [0, 1].map(E::Written::from_low_bits);
-        *last = other[usize::from(*last == other[0])];
-        Ok(written)
+    fn second<E: Entry>(call: &mut E) -> Result<(), u8> {
+        let mut before = call.clone();
+        call.second()?;
+        for (buffer, before) in call.written().into_iter().zip(before.written()).rev() {
+            let is_written = |place: &usize| buffer.bits(*place) != before.bits(*place);
+            if let Some(last) = (0..buffer.count()).rfind(is_written) {
+                buffer.set_bits(last, buffer.bits(last) ^ 1);
+                break;
+            }
+        }
+        Ok(())
     }
 }
 
+#[derive(Clone)]
 struct OtherRefusal;
 
 impl Change for OtherRefusal {
-    fn second<E: Entry>(input: &InputOf<E>) -> Result<Vec<E::Written>, u8> {
-        E::second(input).map_err(|number| number % 16 + 1)
+    fn second<E: Entry>(call: &mut E) -> Result<(), u8> {
+        call.second().map_err(|number| number % 16 + 1)
     }
 }
 
+#[derive(Clone)]
 struct AllAccepted;
 
 impl Change for AllAccepted {
-    fn second<E: Entry>(input: &InputOf<E>) -> Result<Vec<E::Written>, u8> {
-        E::second(input).or(Ok(Vec::new()))
+    fn second<E: Entry>(call: &mut E) -> Result<(), u8> {
+        call.second().or(Ok(()))
     }
 }
 
+#[derive(Clone)]
 struct AllRefused;
 
 impl Change for AllRefused {
-    fn second<E: Entry>(input: &InputOf<E>) -> Result<Vec<E::Written>, u8> {
-        E::second(input).and(Err(1))
+    fn second<E: Entry>(call: &mut E) -> Result<(), u8> {
+        call.second().and(Err(1))
     }
 }
 
 /// The library and the second implementation refuse all, and so agree.
+#[derive(Clone)]
 struct AllRefusedByBoth;
 
 impl Change for AllRefusedByBoth {
-    fn library<E: Entry>(_: &InputOf<E>, _: &mut [E::Written]) -> u8 {
+    fn library<E: Entry>(_: &mut E) -> u8 {
         1
     }
 
-    fn second<E: Entry>(_: &InputOf<E>) -> Result<Vec<E::Written>, u8> {
+    fn second<E: Entry>(_: &mut E) -> Result<(), u8> {
         Err(1)
     }
 }
 
+/// The second implementation refuses what is to be refused, and touches what was lent.
+#[derive(Clone)]
+struct RefusedAndTouched;
+
+impl Change for RefusedAndTouched {
+    fn second<E: Entry>(call: &mut E) -> Result<(), u8> {
+        let refused = call.second();
+        let mut written = call.written().into_iter();
+        let touched = written.find(|buffer| refused.is_err() && buffer.count() > 0);
+        if let Some(buffer) = touched {
+            buffer.set_bits(0, buffer.bits(0) ^ 1);
+        }
+        refused
+    }
+}
+
 /// What a call that breaks a rule of lent memory ends in.
+#[derive(Clone)]
 struct Breach;
 
 impl Change for Breach {
-    fn library<E: Entry>(_: &InputOf<E>, _: &mut [E::Written]) -> u8 {
+    fn library<E: Entry>(_: &mut E) -> u8 {
         panic!("a call wrote outside its buffer")
     }
 }
 
 /// The entry with its answers so changed.
-struct Changed<E, C>(PhantomData<(E, C)>);
+#[derive(Clone)]
+struct Changed<E, C>(E, PhantomData<C>);
+
+impl<E: Entry, C: Change> Call for Changed<E, C> {
+    const NAME: &'static str = E::NAME;
+
+    fn library(&mut self) -> u8 {
+        C::library(&mut self.0)
+    }
+
+    fn arguments(&self) -> Vec<(&'static str, Argument<'_>)> {
+        self.0.arguments()
+    }
+
+    fn written(&mut self) -> Vec<&mut dyn Buffer> {
+        self.0.written()
+    }
+}
 
 impl<E: Entry, C: Change> Entry for Changed<E, C> {
-    const NAME: &'static str = E::NAME;
     const ORDER: &'static [u8] = E::ORDER;
     const SHARE: usize = E::SHARE;
 
-    type Numbers = E::Numbers;
-    type Read = E::Read;
-    type Written = E::Written;
-
-    fn accepted(rng: &mut Rng) -> InputOf<E> {
-        E::accepted(rng)
+    fn accepted(rng: &mut Rng) -> Self {
+        Changed(E::accepted(rng), PhantomData)
     }
 
-    fn break_rule(rng: &mut Rng, input: &mut InputOf<E>, rule: usize) {
-        E::break_rule(rng, input, rule);
+    fn break_rule(&mut self, rng: &mut Rng, rule: usize) {
+        self.0.break_rule(rng, rule);
     }
 
-    fn open(rng: &mut Rng) -> InputOf<E> {
-        E::open(rng)
+    fn open(rng: &mut Rng) -> Self {
+        Changed(E::open(rng), PhantomData)
     }
 
-    fn library(input: &InputOf<E>, written: &mut [E::Written]) -> u8 {
-        C::library::<E>(input, written)
-    }
-
-    fn second(input: &InputOf<E>) -> Result<Vec<E::Written>, u8> {
-        C::second::<E>(input)
+    fn second(&mut self) -> Result<(), u8> {
+        C::second(&mut self.0)
     }
 }
 
@@ -170,18 +204,72 @@ fn notices_all<E: Entry>() {
     notices::<E, AllAccepted>("the second implementation 0");
     notices::<E, AllRefused>("the library gives 0, the second implementation 1");
     notices::<E, AllRefusedByBoth>("made to give 0, and both give 1");
+    notices::<E, RefusedAndTouched>("first at offset 0");
     notices::<E, Breach>("a call wrote outside its buffer");
 }
 
 #[test]
 fn wrong_answers_are_noticed() {
-    notices_all::<Preamble>();
-    notices_all::<SignallingRead>();
-    notices_all::<SignallingWrite>();
-    notices_all::<PayloadWrite>();
-    notices_all::<PayloadRead>();
-    notices_all::<Encode>();
-    notices_all::<Place>();
+    struct Noticing;
+    impl Visitor for Noticing {
+        fn visit<E: Entry>(&mut self) {
+            notices_all::<E>();
+        }
+    }
+    every_entry(&mut Noticing);
+}
+
+/// A made-up function that counts its calls in memory that its caller keeps. The second implementation counts no
+/// further than 1.
+#[derive(Clone)]
+struct Counting {
+    state: Vec<u16>,
+}
+
+impl Call for Counting {
+    const NAME: &'static str = "opl_counting";
+
+    fn library(&mut self) -> u8 {
+        self.state[0] += 1;
+        0
+    }
+
+    fn arguments(&self) -> Vec<(&'static str, Argument<'_>)> {
+        vec![("state", Argument::Buffer(&self.state))]
+    }
+
+    fn written(&mut self) -> Vec<&mut dyn Buffer> {
+        vec![&mut self.state]
+    }
+}
+
+impl Entry for Counting {
+    const ORDER: &'static [u8] = &[];
+    const SHARE: usize = 1;
+
+    fn accepted(_: &mut Rng) -> Counting {
+        Counting { state: vec![0] }
+    }
+
+    fn break_rule(&mut self, _: &mut Rng, _: usize) {}
+
+    fn second(&mut self) -> Result<(), u8> {
+        self.state[0] = 1;
+        Ok(())
+    }
+}
+
+#[test]
+fn a_state_is_carried_from_call_to_call() {
+    let run = Fuzz::over(704, &[Listed::of::<Counting>()]).run(|_| false);
+    let difference = run.difference.expect("a difference").to_string();
+    let words = [
+        "state: 1 of 0001",
+        "state first at offset 0: the library has 0002, the second implementation 0001",
+    ];
+    for part in words {
+        assert!(difference.contains(part), "{difference}");
+    }
 }
 
 /// An entry that is never called has given nothing.
@@ -189,7 +277,7 @@ fn wrong_answers_are_noticed() {
 fn a_number_that_never_came_is_noticed() {
     let mut run = Fuzz::over(702, &[Listed::of::<Preamble>()]).run(|_| false);
     assert!(run.is_well());
-    run.tally = Tally::new(&ENTRIES[..1]);
+    run.tally = Tally::new(&[Listed::of::<Preamble>()]);
     assert!(!run.is_well());
     assert!(run
         .to_string()

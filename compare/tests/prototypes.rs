@@ -1,8 +1,10 @@
 //! What compare/ reads of include/opl.h, and what it writes from that: every function, with every number and
 //! buffer that it has.
 
-use compare::fuzz::Fuzz;
+use compare::calls::{every_entry, Argument};
+use compare::fuzz::{Entry, Fuzz, Visitor};
 use compare::prototypes::{c, functions, parse, values, Fault, Form, Parameter, Prototype};
+use compare::rng::Rng;
 
 const HEADER: &str = include_str!("../../include/opl.h");
 /// The source that the header's functions are exported from.
@@ -205,6 +207,34 @@ fn every_function_of_the_header_is_fuzzed() {
     for Prototype { name, .. } in declared() {
         assert!(run.tally.count(&name, 0) > 0, "{name}\n{run}");
     }
+}
+
+/// The numbers and buffers of each call are those of its prototype.
+#[test]
+fn every_call_has_the_arguments_of_its_prototype() {
+    struct Held(std::vec::IntoIter<Prototype>);
+    impl Visitor for Held {
+        fn visit<E: Entry>(&mut self) {
+            let prototype = self.0.next().expect("a function");
+            assert_eq!(prototype.name, E::NAME);
+            let mut call = E::accepted(&mut Rng::new(711));
+            assert_eq!(call.written().len(), prototype.written().count());
+            assert_eq!(call.arguments().len(), prototype.parameters.len());
+            for (parameter, (name, argument)) in prototype.parameters.iter().zip(call.arguments()) {
+                let bits = parameter.scalar.rust[1..]
+                    .parse::<usize>()
+                    .expect("its bits");
+                assert_eq!(parameter.name, name);
+                match argument {
+                    Argument::Number(_) => assert_eq!(parameter.form, Form::Number),
+                    Argument::Buffer(buffer) => assert_eq!(4 * buffer.digits(), bits, "{name}"),
+                }
+            }
+        }
+    }
+    let mut held = Held(declared().into_iter());
+    every_entry(&mut held);
+    assert!(held.0.next().is_none());
 }
 
 /// A function's name and the types of its parameters, of a prototype.

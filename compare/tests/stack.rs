@@ -1,6 +1,6 @@
 //! The stack that each exported function takes, as stack.c measures it, against the figures of include/opl.h.
 
-use compare::fuzz::ENTRIES;
+use compare::fuzz::entries;
 use compare::inputs;
 use compare::rng::Rng;
 use compare::second::signalling::sheet_of;
@@ -114,7 +114,7 @@ fn most(encode: bool) -> usize {
 
 #[test]
 fn every_function_is_measured_accepted_and_with_each_refusal() {
-    for entry in ENTRIES {
+    for entry in entries() {
         for number in [0].iter().chain(entry.order) {
             let found = taken()
                 .iter()

@@ -186,13 +186,13 @@ fn sof_preamble<'a>() -> Box<dyn Row + 'a> {
 mod tests {
     use super::*;
     use crate::bench::row::SIDES;
-    use crate::fuzz::ENTRIES;
+    use crate::fuzz::entries;
 
     #[test]
     fn every_exported_function_has_rows() {
         let encoder = Encoder::new();
         let rows = rows(&encoder);
-        for entry in ENTRIES {
+        for entry in entries() {
             let name = entry.name;
             let measured = rows.iter().any(|row| row.title().function == name);
             assert!(measured, "{name} is not measured");

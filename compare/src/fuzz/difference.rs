@@ -1,10 +1,10 @@
 //! What a case that does not end well has to say.
 
-use super::{Entry, Input, InputOf};
-use crate::element::Element;
+use crate::calls::{Argument, Call};
+use crate::element::Buffer;
 use std::any::Any;
 use std::fmt::{self, Display, Formatter};
-use std::mem::size_of;
+use std::ops::Range;
 use std::panic::{catch_unwind, AssertUnwindSafe};
 
 /// A fault and the case that shows it.
@@ -35,15 +35,16 @@ pub(super) struct Fault {
 }
 
 impl Fault {
-    pub(super) fn of_call<E: Entry>(input: &InputOf<E>, what: String) -> Fault {
-        let Input {
-            numbers,
-            read,
-            length,
-        } = input;
-        let (name, count, read) = (E::NAME, read.len(), short(read));
-        let call =
-            format!("{name}, numbers {numbers:?}, {count} to read, {length} to write: {read}");
+    /// Of a call, as it was before it was made.
+    pub(super) fn of_call<C: Call>(call: &C, what: String) -> Fault {
+        let arguments = call.arguments().into_iter().map(|(name, argument)| {
+            let shown = match argument {
+                Argument::Number(number) => format!("{number}"),
+                Argument::Buffer(buffer) => short(buffer),
+            };
+            format!("\n  {name}: {shown}")
+        });
+        let call = C::NAME.to_string() + &arguments.collect::<String>();
         Fault { call, what }
     }
 
@@ -54,22 +55,23 @@ impl Fault {
     }
 }
 
-/// Elements in hexadecimal, of many the first and the last: headers stand in front or at the end.
-fn short<T: Element>(elements: &[T]) -> String {
+/// Their number and the elements in hexadecimal, of many the first and the last: headers stand in front or at the
+/// end.
+fn short(buffer: &dyn Buffer) -> String {
     const WHOLE: usize = 128;
     const PART: usize = 16;
-    if elements.len() <= WHOLE {
-        return hex(elements);
+    let count = buffer.count();
+    if count <= WHOLE {
+        return format!("{count} of {}", hex(buffer, 0..count));
     }
-    let (front, end) = (&elements[..PART], &elements[elements.len() - PART..]);
-    format!("{} .. {}", hex(front), hex(end))
+    let (front, end) = (hex(buffer, 0..PART), hex(buffer, count - PART..count));
+    format!("{count} of {front} .. {end}")
 }
 
-pub(super) fn hex<T: Element>(elements: &[T]) -> String {
-    let digits = 2 * size_of::<T>();
-    elements
-        .iter()
-        .map(|element| format!("{element:0digits$X?}"))
+pub(super) fn hex(buffer: &dyn Buffer, places: Range<usize>) -> String {
+    let digits = buffer.digits();
+    places
+        .map(|place| format!("{:0digits$X}", buffer.bits(place)))
         .collect()
 }
 

@@ -11,10 +11,7 @@ mod tally;
 mod trial;
 
 pub use difference::Difference;
-pub use entries::{
-    Encode, PayloadRead, PayloadWrite, Place, Preamble, SignallingRead, SignallingWrite,
-};
-pub use entry::{Entry, Input, InputOf, Listed};
+pub use entry::{entries, Entry, Listed, Visitor};
 pub use run::Run;
 pub use tally::Tally;
 
@@ -23,17 +20,6 @@ use chains::CHAINS;
 use difference::{caught, Fault};
 use entry::Aim;
 use trial::Trial;
-
-/// What include/opl.h declares, in its order.
-pub const ENTRIES: [Listed; 7] = [
-    Listed::of::<Preamble>(),
-    Listed::of::<SignallingRead>(),
-    Listed::of::<SignallingWrite>(),
-    Listed::of::<PayloadWrite>(),
-    Listed::of::<PayloadRead>(),
-    Listed::of::<Encode>(),
-    Listed::of::<Place>(),
-];
 
 /// How often each chain comes in a round.
 const CHAIN_SHARE: usize = 4;
@@ -65,12 +51,13 @@ pub struct Outcome {
 impl Fuzz {
     /// Calls of all exported functions, alone and in chains.
     pub fn new(seed: u64) -> Fuzz {
-        let mut kinds = calls_of(&ENTRIES);
+        let entries = entries();
+        let mut kinds = calls_of(&entries);
         kinds.extend(CHAINS.map(|chain| Kind {
             times: CHAIN_SHARE,
             run: Box::new(chain),
         }));
-        Fuzz::of(seed, &ENTRIES, kinds)
+        Fuzz::of(seed, &entries, kinds)
     }
 
     /// Calls of these functions, alone.
@@ -111,7 +98,8 @@ impl Fuzz {
     }
 }
 
-/// Of each entry as many calls that are accepted, and as many that are open, as are aimed at a rule.
+/// Of each entry as many calls that are accepted, and as many that are open, as are aimed at a rule; and some that
+/// are made twice.
 fn calls_of(entries: &[Listed]) -> Vec<Kind> {
     let kinds = entries.iter().flat_map(|entry| {
         let (rules, share, run) = (entry.order.len(), entry.share, entry.run);
@@ -119,6 +107,7 @@ fn calls_of(entries: &[Listed]) -> Vec<Kind> {
         let aimed = (0..rules).map(move |rule| (share, Aim::Rule(rule)));
         others
             .into_iter()
+            .chain([(share, Aim::Again)])
             .chain(aimed)
             .map(move |(times, aim)| Kind {
                 times,

@@ -3,8 +3,8 @@
 use super::Listed;
 use std::fmt::{self, Display, Formatter};
 
-/// The refusal numbers, and 0.
-const NUMBERS: usize = 17;
+/// All that a function could return.
+const NUMBERS: usize = 256;
 
 pub struct Tally {
     rows: Vec<(Listed, [u64; NUMBERS])>,
@@ -39,15 +39,28 @@ impl Tally {
         self.rows
             .iter()
             .flat_map(|(entry, counts)| {
-                let due = (0..NUMBERS as u8).filter(|number| can_give(entry, *number));
+                let due = (0..=u8::MAX).filter(|number| can_give(entry, *number));
                 let never = due.filter(|number| counts[usize::from(*number)] == 0);
                 never.map(|number| (entry.name, number))
             })
             .collect()
     }
+
+    /// The numbers from 0 to the last that an entry can give or gave.
+    fn numbers(&self) -> usize {
+        let shown = |(entry, counts): &(Listed, [u64; NUMBERS])| {
+            let known = |number: &usize| counts[*number] > 0 || can_give(entry, *number as u8);
+            (0..NUMBERS).rfind(known)
+        };
+        self.rows
+            .iter()
+            .filter_map(shown)
+            .max()
+            .map_or(0, |last| last + 1)
+    }
 }
 
-fn total(counts: &[u64; NUMBERS]) -> u64 {
+fn total(counts: &[u64]) -> u64 {
     counts.iter().sum()
 }
 
@@ -58,9 +71,11 @@ fn can_give(entry: &Listed, number: u8) -> bool {
 /// A table with a row for each entry, blank where its order does not have the number.
 impl Display for Tally {
     fn fmt(&self, to: &mut Formatter) -> fmt::Result {
-        let table: Vec<Vec<String>> = [heads()]
+        let numbers = self.numbers();
+        let rows = self.rows.iter();
+        let table: Vec<Vec<String>> = [heads(numbers)]
             .into_iter()
-            .chain(self.rows.iter().map(|(entry, counts)| cells(entry, counts)))
+            .chain(rows.map(|(entry, counts)| cells(entry, &counts[..numbers])))
             .collect();
         let width = |column: usize| table.iter().map(|row| row[column].len()).max();
         let widths: Vec<usize> = (0..table[0].len()).filter_map(width).collect();
@@ -75,19 +90,19 @@ impl Display for Tally {
     }
 }
 
-fn heads() -> Vec<String> {
-    let numbers = (0..NUMBERS).map(|number| number.to_string());
+fn heads(numbers: usize) -> Vec<String> {
+    let numbers = (0..numbers).map(|number| number.to_string());
     let (first, last) = ("calls by number".to_string(), "all".to_string());
     [first].into_iter().chain(numbers).chain([last]).collect()
 }
 
-fn cells(entry: &Listed, counts: &[u64; NUMBERS]) -> Vec<String> {
+fn cells(entry: &Listed, counts: &[u64]) -> Vec<String> {
     let blank = |number: usize| counts[number] == 0 && !can_give(entry, number as u8);
     let cell = |number: usize| match blank(number) {
         true => String::new(),
         false => counts[number].to_string(),
     };
     let (first, last) = (entry.name.to_string(), total(counts).to_string());
-    let numbers = (0..NUMBERS).map(cell);
+    let numbers = (0..counts.len()).map(cell);
     [first].into_iter().chain(numbers).chain([last]).collect()
 }

@@ -1,9 +1,9 @@
 //! The calls of a case, each made both ways and compared.
 
 use super::difference::{caught, hex};
-use super::{Entry, Fault, InputOf};
-use crate::element::Element;
-use crate::lent::first_difference;
+use super::{Entry, Fault};
+use crate::calls::{Argument, Call};
+use crate::element::Buffer;
 use crate::rng::Rng;
 
 /// A case under way.
@@ -13,10 +13,10 @@ pub struct Trial {
     pub(super) calls: Vec<(&'static str, u8)>,
 }
 
-/// The number that a call gave, and the memory that it could write as it then was.
-struct Answer<W> {
+/// The number that a call gave, and the call as it then was.
+struct Answer<E> {
     number: u8,
-    memory: Vec<W>,
+    call: E,
 }
 
 impl Trial {
@@ -25,69 +25,66 @@ impl Trial {
         Trial { rng, calls }
     }
 
-    /// Makes a call of the library and of the second implementation, with memory of one random content lent
-    /// to be written, and gives this memory back. It is a difference too if both agree on another number
-    /// than is due.
-    pub fn call<E: Entry>(
-        &mut self,
-        input: &InputOf<E>,
-        due: Option<u8>,
-    ) -> Result<Vec<E::Written>, Fault> {
-        let draw = |_| E::Written::from_low_bits(self.rng.next_u64());
-        let held: Vec<E::Written> = (0..input.length).map(draw).collect();
-        let Answer { number, memory } =
-            agreed::<E>(input, held).map_err(|what| Fault::of_call::<E>(input, what))?;
+    /// Makes a call of the library and of the second implementation, and gives the call back as it is then. It is
+    /// a difference too if both agree on another number than is due.
+    pub fn call<E: Entry>(&mut self, call: &E, due: Option<u8>) -> Result<E, Fault> {
+        let answer = agreed(call).map_err(|what| Fault::of_call(call, what))?;
+        let number = answer.number;
         self.calls.push((E::NAME, number));
         match due {
-            Some(due) if due != number => Err(Fault::of_call::<E>(
-                input,
+            Some(due) if due != number => Err(Fault::of_call(
+                call,
                 format!("made to give {due}, and both give {number}"),
             )),
-            _ => Ok(memory),
+            _ => Ok(answer.call),
         }
     }
 }
 
 /// The answer of both, or how they differ.
-fn agreed<E: Entry>(
-    input: &InputOf<E>,
-    held: Vec<E::Written>,
-) -> Result<Answer<E::Written>, String> {
-    let second = caught(|| second::<E>(input, held.clone()))
+fn agreed<E: Entry>(call: &E) -> Result<Answer<E>, String> {
+    let second = caught(|| answer(call, |call| call.second().err().unwrap_or(0)))
         .map_err(|panic| format!("the second implementation panics: {panic}"))?;
     let library =
-        caught(|| library::<E>(input, held)).map_err(|panic| format!("the library: {panic}"))?;
+        caught(|| answer(call, E::library)).map_err(|panic| format!("the library: {panic}"))?;
     if library.number != second.number {
         return Err(format!(
             "the library gives {}, the second implementation {}",
             library.number, second.number
         ));
     }
-    match first_difference(&library.memory, &second.memory) {
-        Some(place) => Err(unlike(place, library.memory[place], second.memory[place])),
+    match unlike(&library.call, &second.call) {
+        Some(what) => Err(what),
         None => Ok(library),
     }
 }
 
-fn library<E: Entry>(input: &InputOf<E>, mut memory: Vec<E::Written>) -> Answer<E::Written> {
-    let number = E::library(input, &mut memory);
-    Answer { number, memory }
+fn answer<E: Call>(call: &E, make: impl FnOnce(&mut E) -> u8) -> Answer<E> {
+    let mut call = call.clone();
+    let number = make(&mut call);
+    Answer { number, call }
 }
 
-fn second<E: Entry>(input: &InputOf<E>, mut memory: Vec<E::Written>) -> Answer<E::Written> {
-    let number = match E::second(input) {
-        Ok(written) => {
-            memory[..written.len()].copy_from_slice(&written);
-            0
+/// How the buffers differ that the library and the second implementation left, what is only read too.
+fn unlike<E: Call>(library: &E, second: &E) -> Option<String> {
+    let pairs = library.arguments().into_iter().zip(second.arguments());
+    let mut faults = pairs.filter_map(|pair| match pair {
+        ((name, Argument::Buffer(library)), (_, Argument::Buffer(second))) => {
+            unlike_buffers(name, library, second)
         }
-        Err(number) => number,
-    };
-    Answer { number, memory }
+        _ => None,
+    });
+    faults.next()
 }
 
-fn unlike<W: Element>(place: usize, library: W, second: W) -> String {
-    let [library, second] = [library, second].map(|element| hex(&[element]));
-    format!(
-        "first at offset {place}: the library has {library}, the second implementation {second}"
-    )
+fn unlike_buffers(name: &str, library: &dyn Buffer, second: &dyn Buffer) -> Option<String> {
+    if library.count() != second.count() {
+        return Some(format!("the second implementation resized {name}"));
+    }
+    let differ = |place: &usize| library.bits(*place) != second.bits(*place);
+    let place = (0..library.count()).find(differ)?;
+    let [library, second] = [library, second].map(|buffer| hex(buffer, place..place + 1));
+    Some(format!(
+        "{name} first at offset {place}: the library has {library}, the second implementation {second}"
+    ))
 }
