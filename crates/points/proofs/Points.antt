@@ -17,8 +17,8 @@ use Rattle.description.specs.Tests.{versionFault, listsFault, anySet, widthWron
 use Rattle.description.specs.Word.{multiplexIn, pIn, pipesIn, tailIn, sIn, dIn, streamsIn, sectionsIn, spareFault, crcFault, paddingFault, wordFaults}
 use Rattle.description.specs.Form1.{headerFault, sheetSections, sheetLists, listsStated, topFault, countFault, sheetFaults}
 use Rattle.interleaver.specs.Order.{parameter, entries5, entries9, entry, reversed, address, kept}
-use Rattle.turbo.specs.Constituent.{y0, y1, next, state, feed, clocked}
-use Rattle.turbo.specs.Lane.{tailSymbols1}
+use Rattle.constituent.specs.Constituent.{y0, y1, next, state, feed, clocked}
+use Rattle.constituent.specs.Symbols.{tailSymbols1}
 use Rattle.points.specs.Points.{Point, points}
 
 -- they are ten, and what the definitions give is what 01 says

@@ -17,8 +17,8 @@ use Rattle.description.specs.Sheet.{sheet}
 use Rattle.description.specs.Word.{pIn, sIn, dIn, wordFaults}
 use Rattle.description.specs.Form1.{sheetFaults}
 use Rattle.interleaver.specs.Order.{parameter, address, keepIf}
-use Rattle.turbo.specs.Constituent.{y0, y1, state, clocked}
-use Rattle.turbo.specs.Lane.{tailSymbols1}
+use Rattle.constituent.specs.Constituent.{y0, y1, state, clocked}
+use Rattle.constituent.specs.Symbols.{tailSymbols1}
 
 -- a case, as numbers
 pub record Point : Type 0 where

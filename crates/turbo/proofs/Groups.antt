@@ -11,9 +11,10 @@ use Rattle.ground.specs.Choice.{choose}
 use Rattle.bits.specs.Lists.{Below}
 use Rattle.bits.specs.Places.{bitAt}
 use Rattle.bits.proofs.Places.{bit-lt}
-use Rattle.turbo.specs.Constituent.{y0, y1, state, feed, clocked}
-use Rattle.turbo.specs.Lane.{second, dataSymbols, tailSymbols1, tailSymbols2, group}
-use Rattle.turbo.specs.declared.constituent.State.{State}
+use Rattle.constituent.specs.Constituent.{y0, y1, state, feed, clocked}
+use Rattle.constituent.specs.Symbols.{dataSymbols, tailSymbols1, tailSymbols2}
+use Rattle.turbo.specs.Lane.{second, group}
+use Rattle.constituent.specs.declared.State.{State}
 
 -- each symbol of a group is a bit
 pub group-bits : (w : List ℕ) (n i : ℕ) → Below 2 (group w n i) × (length (group w n i) ≡ 5)

@@ -1,12 +1,6 @@
 pub mod Accepting
 pub mod Groups
 pub mod CodeBits
-pub mod Segments
-pub mod Linear
-pub mod Joint
-pub mod Weighing
-pub mod Looking
-pub mod Tails
 pub mod Reading
 pub mod Streaming
 pub mod Ending

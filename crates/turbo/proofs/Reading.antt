@@ -18,7 +18,7 @@ use Rattle.bits.proofs.Places.{bit-lt, number-lt, number-cong, number-append, n
 use Rattle.interleaver.specs.Order.{order}
 use Rattle.interleaver.specs.Read.{interleavedBit, interleaved}
 use Rattle.turbo.specs.Lane.{second}
-use Rattle.turbo.specs.Six.{bitOf}
+use Rattle.constituent.specs.Six.{bitOf}
 use Rattle.turbo.specs.Stream.{Prepared}
 
 pub second-lt : (w : List ℕ) (n i : ℕ) → second w n i < 2

@@ -2,38 +2,44 @@
 -- Assumes nothing.
 use Prim.Native.Nat.{ℕ, zero, suc, _+_, _-_, _*_, _/_, _%_, _^_, _≤_, _<_}
 use mathlib.Core.Path.{_≡_, refl, sym, ap, ap₂, _∙_, subst}
+use mathlib.Core.Bool.{Bool}
 use mathlib.Core.List.{List, [], _∷_}
 use native.Mathlib.Nat.{zero-add, add-zero, mul-one, not-suc-le-zero}
 use native.Mathlib.Omega.{arith}
 use lib.Bits.{bitXor}
+use lib.Dec.{T, leb, leb→le}
 use lib.ListN.{length, getD}
 use lib.Pow.{high, low}
 use borrow.Author.Tests.{lt-ltb}
 use Rattle.ground.specs.Outcome.{Is}
+use Rattle.ground.specs.Table.{tab, allBelow}
 use Rattle.ground.proofs.Choice.{choose-true}
+use Rattle.ground.proofs.Table.{at-all}
 use Rattle.bits.specs.Places.{bitAt, number}
 use Rattle.bits.specs.Held.{placeOf, Held}
 use Rattle.bits.proofs.Places.{bit-lt, number-lt, number-cong}
 use Rattle.bits.proofs.Widens.{wide-put}
-use Rattle.patterns.specs.Rows.{digit, copies}
+use Rattle.patterns.specs.Rows.{dataRows, tailRows, dataGroup, tailGroup, groupAt, digit, copies}
 use Rattle.patterns.specs.Walk.{entries}
 use Rattle.patterns.specs.Sent.{places, spread, total}
 use Rattle.patterns.proofs.Totals.{total-cong, total-add, total-mono, total-zero}
 use Rattle.patterns.proofs.Blocks.{coded-bounds}
 use Rattle.patterns.proofs.Groups.{entryOf, entry-digit}
-use Rattle.turbo.specs.Constituent.{next, state}
-use Rattle.turbo.specs.Lane.{second, dataSymbols, group, laneBit}
+use Rattle.constituent.specs.Constituent.{next, state}
+use Rattle.constituent.specs.Symbols.{dataSymbols}
+use Rattle.turbo.specs.Lane.{second, group, laneBit}
 use Rattle.turbo.specs.Encode.{codeBits}
-use Rattle.turbo.specs.Inside.{Bits}
-use Rattle.turbo.specs.Six.{stateOf, bitOf, after, registers, six, joint, digitAt, halfAt, segment, coded, told, chunked}
-use Rattle.turbo.specs.Tables.{Looks}
-use Rattle.turbo.specs.Stream.{codeBit, both, Prepared, Sent}
-use Rattle.turbo.specs.declared.constituent.State.{State}
+use Rattle.constituent.proofs.Linear.{Bits}
+use Rattle.constituent.specs.Six.{stateOf, bitOf, after, registers, six, joint}
+use Rattle.constituent.specs.Segment.{digitAt, segment}
+use Rattle.tables.specs.Plan.{halfAt, coded, planOf}
+use Rattle.turbo.specs.Stream.{codeBit, told, chunked, both, Prepared, Sent}
+use Rattle.constituent.specs.declared.State.{State}
 use Rattle.turbo.specs.declared.stream.Coder.{Coder}
-use Rattle.turbo.proofs.Segments.{segment-cong, segment-append, segment-number, spread-number}
-use Rattle.turbo.proofs.Joint.{joint-lt, six-data, six-then, bit-mod, joins-apart}
-use Rattle.turbo.proofs.Weighing.{half-data, half-then, half-six, half-most}
-use Rattle.turbo.proofs.Looking.{coded-sum}
+use Rattle.constituent.proofs.Segments.{segment-cong, segment-append, segment-number, spread-number}
+use Rattle.constituent.proofs.Joint.{joint-lt, six-data, six-then, bit-mod, joins-apart}
+use Rattle.tables.proofs.Weighing.{half-data, half-then, half-six, half-most}
+use Rattle.tables.proofs.Looking.{coded-sum, plan-at}
 use Rattle.turbo.proofs.Reading.{second-lt, six-bit}
 use Rattle.turbo.proofs.CodeBits.{code-lt}
 
@@ -133,14 +139,14 @@ module _ (f g : ℕ → ℕ) (hf : (k : ℕ) → f k < 2) (hg : (k : ℕ) → g 
   registers-number s t = omega arith
 
   -- what is sent, and the registers then
-  pub coded-parts : (p h : ℕ) → (coded p h held / 64 ≡ segment (halfAt p h) (joint held) 30) × (coded p h held % 64 ≡ both (state f (i + 6)) (state g (i + 6)))
+  pub coded-parts : (rows : List ℕ) (h : ℕ) → (coded rows h held / 64 ≡ segment (halfAt rows h) (joint held) 30) × (coded rows h held % 64 ≡ both (state f (i + 6)) (state g (i + 6)))
   unfolding coded
-  coded-parts p h =
-      let d : ℕ → ℕ = halfAt p h in
+  coded-parts rows h =
+      let d : ℕ → ℕ = halfAt rows h in
       let B : ℕ = both (state f (i + 6)) (state g (i + 6)) in
-      let six : total (λ k. d (30 + k)) 6 ≡ 6 = omega (arith, half-six p h, total-add d 30 6) in
+      let six : total (λ k. d (30 + k)) 6 ≡ 6 = omega (arith, half-six rows h, total-add d 30 6) in
       let n : segment (λ k. d (30 + k)) (λ k. joint held (30 + k)) 6 ≡ B =
-      segment-number (λ k. d (30 + k)) (λ k. joint held (30 + k)) 6 (λ k l. half-then p h (30 + k) (omega arith))
+      segment-number (λ k. d (30 + k)) (λ k. joint held (30 + k)) 6 (λ k l. half-then rows h (30 + k) (omega arith))
       ∙ number-cong (λ k. joint held (30 + k)) (λ k. getD (registers (state f (i + 6)) (state g (i + 6))) k 0) 0 6 (λ k l. joint-then (0 + k) (omega arith))
       ∙ registers-number (state f (i + 6)) (state g (i + 6)) in
       let e : segment d (joint held) 36 ≡ segment d (joint held) 30 * 2 ^ 6 + B =
@@ -148,9 +154,27 @@ module _ (f g : ℕ → ℕ) (hf : (k : ℕ) → f k < 2) (hg : (k : ℕ) → g 
       let l : B < 64 = both-lt (state f (i + 6)) (state g (i + 6)) (state-bits f (i + 6)) (state-bits g (i + 6)) in
       (ap (λ (x : ℕ). x / 64) e ∙ high (segment d (joint held) 30) 6 l, ap (λ (x : ℕ). x % 64) e ∙ low (segment d (joint held) 30) 6 l)
 
+-- ---- every symbol of a data group is sent once or not at all
+once : ℕ → Bool
+once i = leb (digitAt (entries (i / 60)) (i % 60)) 1
+
+all-once : T (allBelow once 1680)
+unfolding once digitAt digit entries tab groupAt dataGroup tailGroup dataRows tailRows
+all-once = tt
+
+digit-whole : (p t : ℕ) → p < 28 → t < 60 → digitAt (entries p) t % 2 ≡ digitAt (entries p) t
+unfolding once
+digit-whole p t hp ht =
+    let e1 : (p * 60 + t) / 60 ≡ p = omega arith in
+    let e2 : (p * 60 + t) % 60 ≡ t = omega arith in
+    let l : digitAt (entries p) t ≤ 1 =
+    subst (λ (x : ℕ). x ≤ 1) (ap₂ (λ (a b : ℕ). digitAt (entries a) b) e1 e2)
+    (leb→le (digitAt (entries ((p * 60 + t) / 60)) ((p * 60 + t) % 60)) 1 (at-all once 1680 all-once (p * 60 + t) (omega arith))) in
+    omega (arith, l)
+
 -- ---- the six groups from 6 q on, of a block of n bits
 module _ (p n : ℕ) (w : List ℕ) (q h : ℕ) (hp : p < 28) (hq : 6 * q + 6 ≤ n) (eh : h ≡ q % 2) where
-  sent-as : (t : ℕ) → t < 30 → halfAt p h t ≡ copies p n (30 * q + t)
+  sent-as : (t : ℕ) → t < 30 → halfAt (entries p) h t ≡ copies p n (30 * q + t)
   unfolding digitAt entryOf
   sent-as t ht =
       let i : ℕ = 6 * q + t / 5 in
@@ -158,10 +182,11 @@ module _ (p n : ℕ) (w : List ℕ) (q h : ℕ) (hp : p < 28) (hq : 6 * q + 6 �
       let e2 : (30 * h + t) % 5 ≡ t % 5 = omega arith in
       let e3 : 5 * i + t % 5 ≡ 30 * q + t = omega arith in
       let e4 : entryOf n i ≡ i % 12 = choose-true (i % 12) (12 + (i - n)) (lt-ltb i n (omega arith)) in
-      half-data p h t ht ∙ ap₂ (λ (x y : ℕ). digit (getD (entries p) x 0) y) (e1 ∙ sym e4) e2 ∙ entry-digit p n i (t % 5) hp (omega arith) (omega arith) ∙ ap (copies p n) e3
+      half-data (entries p) h t ht ∙ digit-whole p (30 * h + t) hp (omega arith)
+      ∙ ap₂ (λ (x y : ℕ). digit (getD (entries p) x 0) y) (e1 ∙ sym e4) e2 ∙ entry-digit p n i (t % 5) hp (omega arith) (omega arith) ∙ ap (copies p n) e3
 
-  pub bits-sent : total (halfAt p h) 30 ≡ total (λ t. copies p n (30 * q + t)) 30
-  bits-sent = total-cong (halfAt p h) (λ t. copies p n (30 * q + t)) 30 sent-as
+  pub bits-sent : total (halfAt (entries p) h) 30 ≡ total (λ t. copies p n (30 * q + t)) 30
+  bits-sent = total-cong (halfAt (entries p) h) (λ t. copies p n (30 * q + t)) 30 sent-as
 
   -- the symbol k of them
   symbol-at : (k : ℕ) → k < 30
@@ -174,10 +199,10 @@ module _ (p n : ℕ) (w : List ℕ) (q h : ℕ) (hp : p < 28) (hq : 6 * q + 6 �
 
   pub segment-sent : (y : ℕ → ℕ)
       → ((k : ℕ) → k < 30 → y k ≡ getD (dataSymbols (bitAt w (6 * q + k / 5)) (state (bitAt w) (6 * q + k / 5)) (second w n (6 * q + k / 5)) (state (second w n) (6 * q + k / 5))) (k % 5) 0)
-      → segment (halfAt p h) y 30 ≡ number (codeBit p n w) (total (copies p n) (30 * q)) (total (halfAt p h) 30)
+      → segment (halfAt (entries p) h) y 30 ≡ number (codeBit p n w) (total (copies p n) (30 * q)) (total (halfAt (entries p) h) 30)
   unfolding codeBit codeBits
   segment-sent y e =
-      segment-cong (halfAt p h) (λ t. copies p n (30 * q + t)) y (λ t. laneBit w n (30 * q + t)) 30 sent-as (λ t l. e t l ∙ sym (symbol-at t l))
+      segment-cong (halfAt (entries p) h) (λ t. copies p n (30 * q + t)) y (λ t. laneBit w n (30 * q + t)) 30 sent-as (λ t l. e t l ∙ sym (symbol-at t l))
       ∙ sym (spread-number (copies p n) (laneBit w n) (places n) (30 * q) 30 (omega arith))
       ∙ ap (number (λ k. getD (spread (copies p n) (laneBit w n) (places n)) k 0) (total (copies p n) (30 * q))) (sym bits-sent)
 
@@ -193,8 +218,8 @@ sent-none p n w out full = record {
   held = record { bytes = λ k h. absurd (not-suc-le-zero h); part = refl };
 }
 
-module _ (p n : ℕ) (w out look : List ℕ) (c : Coder) (q u v h k o : ℕ) (hp : p < 28) (L : Looks p look) (S : Sent p n w out c q) (hq : 6 * q + 6 ≤ n)
-    (eu : u ≡ number (bitAt w) (6 * q) 6) (ev : v ≡ number (second w n) (6 * q) 6) (eh : h ≡ q % 2) (ek : k ≡ total (halfAt p h) 30) (eo : o ≡ 192 * h) where
+module _ (p n : ℕ) (w out look : List ℕ) (c : Coder) (q u v h k o : ℕ) (hp : p < 28) (L : look ≡ planOf (entries p) .look) (S : Sent p n w out c q) (hq : 6 * q + 6 ≤ n)
+    (eu : u ≡ number (bitAt w) (6 * q) 6) (ev : v ≡ number (second w n) (6 * q) 6) (eh : h ≡ q % 2) (ek : k ≡ total (halfAt (entries p) h) 30) (eo : o ≡ 192 * h) where
   abbrev whole : ℕ
   whole = u * 4096 + v * 64 + both (state (bitAt w) (6 * q)) (state (second w n) (6 * q))
 
@@ -211,24 +236,27 @@ module _ (p n : ℕ) (w out look : List ℕ) (c : Coder) (q u v h k o : ℕ) (hp
   pub sent-asks : (o ≤ 192) × (u < 64) × (v < 64) × (c .both < 64)
   sent-asks = (omega arith, u-small, v-small, both-small)
 
-  told-is : told look o u v (c .both) ≡ coded p h whole
+  at : (h i x : ℕ) → h < 2 → i < 3 → x < 64 → getD look (192 * h + 64 * i + x) 0 ≡ coded (entries p) h (x * 2 ^ (6 * i))
+  at h i x hh hi hx = ap (λ (l : List ℕ). getD l (192 * h + 64 * i + x) 0) L ∙ plan-at (entries p) h i x hh hi hx
+
+  told-is : told look o u v (c .both) ≡ coded (entries p) h whole
   told-is =
       let hh : h < 2 = omega arith in
       let b : ℕ = c .both in
-      let a2 : getD look (o + 128 + u) 0 ≡ coded p h (u * 4096) = ap (λ (x : ℕ). getD look (x + 128 + u) 0) eo ∙ L .at h 2 u hh (omega arith) u-small in
-      let a1 : getD look (o + 64 + v) 0 ≡ coded p h (v * 64) = ap (λ (x : ℕ). getD look (x + 64 + v) 0) eo ∙ L .at h 1 v hh (omega arith) v-small in
-      let a0 : getD look (o + b) 0 ≡ coded p h b =
-      ap (λ (x : ℕ). getD look (x + b) 0) (eo ∙ sym (add-zero (192 * h))) ∙ L .at h 0 b hh (omega arith) both-small ∙ ap (coded p h) (mul-one b) in
-      let j1 : coded p h (u * 4096 + v * 64) ≡ bitXor (coded p h (u * 4096)) (coded p h (v * 64)) =
-      coded-sum p h hp hh (u * 4096) (v * 64) (u * 4096 + v * 64) (joins-apart 12 u (v * 64) (omega (arith, v-small))) in
+      let a2 : getD look (o + 128 + u) 0 ≡ coded (entries p) h (u * 4096) = ap (λ (x : ℕ). getD look (x + 128 + u) 0) eo ∙ at h 2 u hh (omega arith) u-small in
+      let a1 : getD look (o + 64 + v) 0 ≡ coded (entries p) h (v * 64) = ap (λ (x : ℕ). getD look (x + 64 + v) 0) eo ∙ at h 1 v hh (omega arith) v-small in
+      let a0 : getD look (o + b) 0 ≡ coded (entries p) h b =
+      ap (λ (x : ℕ). getD look (x + b) 0) (eo ∙ sym (add-zero (192 * h))) ∙ at h 0 b hh (omega arith) both-small ∙ ap (coded (entries p) h) (mul-one b) in
+      let j1 : coded (entries p) h (u * 4096 + v * 64) ≡ bitXor (coded (entries p) h (u * 4096)) (coded (entries p) h (v * 64)) =
+      coded-sum (entries p) h (u * 4096) (v * 64) (u * 4096 + v * 64) (joins-apart 12 u (v * 64) (omega (arith, v-small))) in
       let m : (u * 64 + v) * 64 ≡ u * 4096 + v * 64 = omega arith in
-      let j0 : coded p h ((u * 64 + v) * 64 + b) ≡ bitXor (coded p h ((u * 64 + v) * 64)) (coded p h b) =
-      coded-sum p h hp hh ((u * 64 + v) * 64) b ((u * 64 + v) * 64 + b) (joins-apart 6 (u * 64 + v) b both-small) in
-      ap₂ bitXor (ap₂ bitXor a2 a1 ∙ sym j1 ∙ ap (coded p h) (sym m)) a0 ∙ sym j0 ∙ ap (coded p h) (ap₂ _+_ m (S .registers))
+      let j0 : coded (entries p) h ((u * 64 + v) * 64 + b) ≡ bitXor (coded (entries p) h ((u * 64 + v) * 64)) (coded (entries p) h b) =
+      coded-sum (entries p) h ((u * 64 + v) * 64) b ((u * 64 + v) * 64 + b) (joins-apart 6 (u * 64 + v) b both-small) in
+      ap₂ bitXor (ap₂ bitXor a2 a1 ∙ sym j1 ∙ ap (coded (entries p) h) (sym m)) a0 ∙ sym j0 ∙ ap (coded (entries p) h) (ap₂ _+_ m (S .registers))
 
   value-is : told look o u v (c .both) / 64 ≡ number (codeBit p n w) (placeOf (c .sink)) k
   value-is =
-      ap (λ (x : ℕ). x / 64) told-is ∙ coded-parts (bitAt w) (second w n) (bit-lt w) (second-lt w n) (6 * q) u v eu ev p h .0
+      ap (λ (x : ℕ). x / 64) told-is ∙ coded-parts (bitAt w) (second w n) (bit-lt w) (second-lt w n) (6 * q) u v eu ev (entries p) h .0
       ∙ segment-sent p n w q h hp hq eh (joint whole) (joint-data (bitAt w) (second w n) (bit-lt w) (second-lt w n) (6 * q) u v eu ev)
       ∙ ap₂ (number (codeBit p n w)) (sym (S .at)) (sym ek)
 
@@ -242,13 +270,13 @@ module _ (p n : ℕ) (w out look : List ℕ) (c : Coder) (q u v h k o : ℕ) (hp
   sent-more r m K =
       let e : 6 * q + 6 ≡ 6 * (q + 1) = omega arith in
       let z : ℕ = told look o u v (c .both) in
-      let P = wide-put (z / 64) k out (c .sink) (r .sink) m (S .room) (omega (arith, ek, half-most p h hp (omega arith)))
+      let P = wide-put (z / 64) k out (c .sink) (r .sink) m (S .room) (omega (arith, ek, half-most (entries p) h))
       (subst (λ (x : ℕ). x < 2 ^ k) (sym value-is) (number-lt (codeBit p n w) (code-bit p n w) (placeOf (c .sink)) k))
       (omega (arith, S .at, S .full, sent-to, total-mono (copies p n) (30 * (q + 1)) (places n) (omega arith)))
       (record { answer = ap (λ (x : Coder). x .sink) (K .answer); memory = K .memory }) in (
         record {
           registers = ap (λ (x : Coder). x .both) (K .answer) ∙ ap (λ (x : ℕ). x % 64) told-is
-              ∙ coded-parts (bitAt w) (second w n) (bit-lt w) (second-lt w n) (6 * q) u v eu ev p h .1
+              ∙ coded-parts (bitAt w) (second w n) (bit-lt w) (second-lt w n) (6 * q) u v eu ev (entries p) h .1
               ∙ ap (λ (x : ℕ). both (state (bitAt w) x) (state (second w n) x)) e;
           room = P .room;
           words = P .step ∙ S .words;
@@ -265,14 +293,22 @@ module _ (p n : ℕ) (w z look : List ℕ) (k0 k1 : ℕ) (P : Prepared p n w z l
   hp : p < 28
   hp = coded-bounds p n (P .coded) .0
 
+  bits0 : k0 ≡ total (halfAt (entries p) 0) 30
+  unfolding planOf
+  bits0 = P .bits0
+
+  bits1 : k1 ≡ total (halfAt (entries p) 1) 30
+  unfolding planOf
+  bits1 = P .bits1
+
   pub even-asks : q % 2 ≡ 0 → (0 ≤ 192) × (u < 64) × (v < 64) × (c .both < 64)
-  even-asks e = sent-asks p n w out look c q u v 0 k0 0 hp (P .looks) S hq eu ev (sym e) (P .bits0) refl
+  even-asks e = sent-asks p n w out look c q u v 0 k0 0 hp (P .looks) S hq eu ev (sym e) bits0 refl
 
   pub even-gives : q % 2 ≡ 0 → (r : Coder) (m : List ℕ) → Is (chunked out look 0 k0 c u v) r m → Sent p n w m r (q + 1) × (length m ≡ length out)
-  even-gives e = sent-more p n w out look c q u v 0 k0 0 hp (P .looks) S hq eu ev (sym e) (P .bits0) refl
+  even-gives e = sent-more p n w out look c q u v 0 k0 0 hp (P .looks) S hq eu ev (sym e) bits0 refl
 
   pub odd-asks : q % 2 ≡ 1 → (192 ≤ 192) × (u < 64) × (v < 64) × (c .both < 64)
-  odd-asks e = sent-asks p n w out look c q u v 1 k1 192 hp (P .looks) S hq eu ev (sym e) (P .bits1) refl
+  odd-asks e = sent-asks p n w out look c q u v 1 k1 192 hp (P .looks) S hq eu ev (sym e) bits1 refl
 
   pub odd-gives : q % 2 ≡ 1 → (r : Coder) (m : List ℕ) → Is (chunked out look 192 k1 c u v) r m → Sent p n w m r (q + 1) × (length m ≡ length out)
-  odd-gives e = sent-more p n w out look c q u v 1 k1 192 hp (P .looks) S hq eu ev (sym e) (P .bits1) refl
+  odd-gives e = sent-more p n w out look c q u v 1 k1 192 hp (P .looks) S hq eu ev (sym e) bits1 refl

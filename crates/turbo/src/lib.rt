@@ -1,10 +1,5 @@
 // The turbo encoder (clauses 4.4.2 to 4.4.5).
-mod constituent;
-mod impulse;
-mod look;
 mod stream;
-mod tail;
-mod weights;
 
 ghost use mathlib.Core.Path.{_≡_};
 ghost use Prim.Native.Nat.{_≤_};

@@ -9,8 +9,7 @@ ghost use Rattle.patterns.specs.Blocks.{Coded};
 ghost use Rattle.patterns.specs.Rows.{copies};
 ghost use Rattle.patterns.specs.Sent.{places, total};
 ghost use Rattle.interleaver.specs.Read.{interleaved};
-ghost use Rattle.turbo.specs.Six.{chunked};
-ghost use Rattle.turbo.specs.Stream.{codeBit, Prepared, Sent};
+ghost use Rattle.turbo.specs.Stream.{codeBit, chunked, Prepared, Sent};
 
 // The sink, and the registers of both encoders in one number.
 pub struct Coder {
@@ -140,10 +139,10 @@ pub fn code(pattern: usize, n: usize, word: &[u8], second: &[u8], out: &mut [u8]
     ensures { λ _. ⌜ now (out .exit) ≡ packed (codeBit pattern n (now (word .entry))) (length (now (out .entry))) ⌝ }
 {
     let rows = patterns::rows::entries(pattern);
-    let plan = crate::look::plan_of(pattern, &rows);
+    let plan = tables::plan_of(&rows);
     let look = plan.look;
     let c = send(out, word, second, pattern, n, &look, plan.k0, plan.k1);
     let sink = c.sink;
-    let tail = crate::tail::run_of(pattern, &rows, c.both);
+    let tail = tail::run_of(&rows, c.both);
     bits::wide::put(out, sink, tail.value, tail.bits);
 }

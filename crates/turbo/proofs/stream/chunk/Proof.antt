@@ -3,7 +3,7 @@ use Prim.Native.Nat.{ℕ, _%_}
 use mathlib.Core.Path.{_≡_, ap}
 use denote.Ref.{now}
 use Rattle.bits.specs.declared.wide.Wide.{Wide}
-use Rattle.turbo.specs.Six.{told, chunked}
+use Rattle.turbo.specs.Stream.{told, chunked}
 use Rattle.turbo.specs.declared.stream.Coder.{Coder}
 use borrow.Author.Needs.{needs}
 use Rattle.turbo.proofs.stream.chunk.Statement.{statement}

@@ -1,0 +1,4 @@
+pub mod Segments
+pub mod Linear
+pub mod Joint
+pub mod Agree

@@ -1,0 +1,4 @@
+pub mod Constituent
+pub mod Symbols
+pub mod Six
+pub mod Segment
