@@ -22,7 +22,7 @@ pub fn plan_of(rows: &[u16; 18]) -> Plan
     let w = a.weights;
     let k0 = a.bits - 6;
     let mut look = [0u64; 384];
-    look::half_of(&mut look, 0, rows, 0, &w, &alone);
+    look::half_of(&mut look, rows, 0, &w, &alone);
     let k1 = look::second_half(&mut look, rows, &alone, k0);
     Plan { look, k0, k1 }
 }

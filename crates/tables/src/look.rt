@@ -43,21 +43,14 @@ fn sixty_four(
     }
 }
 
-// The three tables of a half, from a place on.
-pub fn half_of(
-    t: &mut [u64],
-    at: usize,
-    rows: &[u16; 18],
-    h: usize,
-    w: &[u64; 36],
-    alone: &[u64; 18],
-)
-    requires { ⌜ (now w ≡ weightsOf (now rows) h) × (now alone ≡ impulses) × (at + 192 ≤ length (now t)) ⌝ }
-    ensures { λ _. ⌜ Halved (now (rows .entry)) h at 3 (now (t .entry)) (now (t .exit)) ⌝ }
+// The three tables of a half, from the place where the half's stand.
+pub fn half_of(t: &mut [u64], rows: &[u16; 18], h: usize, w: &[u64; 36], alone: &[u64; 18])
+    requires { ⌜ (now w ≡ weightsOf (now rows) h) × (now alone ≡ impulses) × (h < 2) × (length (now t) ≡ 384) ⌝ }
+    ensures { λ _. ⌜ Halved (now (rows .entry)) h (192 * h) 3 (now (t .entry)) (now (t .exit)) ⌝ }
 {
     let mut j = 0;
     while j < 3 {
-        sixty_four(t, at + 64 * j, rows, h, w, alone, 6 * j);
+        sixty_four(t, 192 * h + 64 * j, rows, h, w, alone, 6 * j);
         j += 1;
     }
 }
@@ -99,6 +92,6 @@ pub fn second_half(t: &mut [u64], rows: &[u16; 18], alone: &[u64; 18], k: usize)
     }
     let b = crate::weights::weights_of(rows, 1);
     let w = b.weights;
-    half_of(t, 192, rows, 1, &w, alone);
+    half_of(t, rows, 1, &w, alone);
     b.bits - 6
 }

@@ -11,7 +11,7 @@ use lib.Dec.{T, leb, leb→le}
 use lib.ListN.{length, getD}
 use lib.Pow.{high, low}
 use borrow.Author.Tests.{lt-ltb}
-use Rattle.ground.specs.Outcome.{Is}
+use Rattle.ground.specs.Outcome.{Outcome, Is}
 use Rattle.ground.specs.Table.{tab, allBelow}
 use Rattle.ground.proofs.Choice.{choose-true}
 use Rattle.ground.proofs.Table.{at-all}
@@ -33,14 +33,14 @@ use Rattle.constituent.proofs.Linear.{Bits}
 use Rattle.constituent.specs.Six.{stateOf, bitOf, after, registers, six, joint}
 use Rattle.constituent.specs.Segment.{digitAt, segment}
 use Rattle.tables.specs.Plan.{halfAt, coded, planOf}
-use Rattle.turbo.specs.Stream.{codeBit, told, chunked, both, Prepared, Sent}
+use Rattle.turbo.specs.Stream.{codeBit, told, chunked, thrice, both, Prepared, Sent}
 use Rattle.constituent.specs.declared.State.{State}
 use Rattle.turbo.specs.declared.stream.Coder.{Coder}
 use Rattle.constituent.proofs.Segments.{segment-cong, segment-append, segment-number, spread-number}
 use Rattle.constituent.proofs.Joint.{joint-lt, six-data, six-then, bit-mod, joins-apart}
 use Rattle.tables.proofs.Weighing.{half-data, half-then, half-six, half-most}
 use Rattle.tables.proofs.Looking.{coded-sum, plan-at}
-use Rattle.turbo.proofs.Reading.{second-lt, six-bit}
+use Rattle.turbo.proofs.Reading.{second-lt, six-bit, sixes, last-six}
 use Rattle.turbo.proofs.CodeBits.{code-lt}
 
 -- ---- bits
@@ -218,6 +218,15 @@ sent-none p n w out full = record {
   held = record { bytes = λ k h. absurd (not-suc-le-zero h); part = refl };
 }
 
+pub sent-both : (p n : ℕ) (w out : List ℕ) (c : Coder) (q : ℕ) → Sent p n w out c q → c .both < 64
+sent-both p n w out c q S =
+    subst (λ (x : ℕ). x < 64) (sym (S .registers)) (both-lt (state (bitAt w) (6 * q)) (state (second w n) (6 * q)) (state-bits (bitAt w) (6 * q)) (state-bits (second w n) (6 * q)))
+
+-- the registers after six bit periods are six bits, whatever was in the tables
+pub chunked-both : (out look : List ℕ) (o k : ℕ) (c : Coder) (u v : ℕ) (r : Coder) (m : List ℕ) → Is (chunked out look o k c u v) r m → r .both < 64
+unfolding chunked
+chunked-both out look o k c u v r m K = subst (λ (x : ℕ). x < 64) (sym (ap (λ (d : Coder). d .both) (K .answer))) (omega arith)
+
 module _ (p n : ℕ) (w out look : List ℕ) (c : Coder) (q u v h k o : ℕ) (hp : p < 28) (L : look ≡ planOf (entries p) .look) (S : Sent p n w out c q) (hq : 6 * q + 6 ≤ n)
     (eu : u ≡ number (bitAt w) (6 * q) 6) (ev : v ≡ number (second w n) (6 * q) 6) (eh : h ≡ q % 2) (ek : k ≡ total (halfAt (entries p) h) 30) (eo : o ≡ 192 * h) where
   abbrev whole : ℕ
@@ -229,13 +238,6 @@ module _ (p n : ℕ) (w out look : List ℕ) (c : Coder) (q u v h k o : ℕ) (hp
   v-small : v < 64
   v-small = subst (λ (x : ℕ). x < 64) (sym ev) (number-lt (second w n) (second-lt w n) (6 * q) 6)
 
-  both-small : c .both < 64
-  both-small =
-      subst (λ (x : ℕ). x < 64) (sym (S .registers)) (both-lt (state (bitAt w) (6 * q)) (state (second w n) (6 * q)) (state-bits (bitAt w) (6 * q)) (state-bits (second w n) (6 * q)))
-
-  pub sent-asks : (o ≤ 192) × (u < 64) × (v < 64) × (c .both < 64)
-  sent-asks = (omega arith, u-small, v-small, both-small)
-
   at : (h i x : ℕ) → h < 2 → i < 3 → x < 64 → getD look (192 * h + 64 * i + x) 0 ≡ coded (entries p) h (x * 2 ^ (6 * i))
   at h i x hh hi hx = ap (λ (l : List ℕ). getD l (192 * h + 64 * i + x) 0) L ∙ plan-at (entries p) h i x hh hi hx
 
@@ -246,12 +248,12 @@ module _ (p n : ℕ) (w out look : List ℕ) (c : Coder) (q u v h k o : ℕ) (hp
       let a2 : getD look (o + 128 + u) 0 ≡ coded (entries p) h (u * 4096) = ap (λ (x : ℕ). getD look (x + 128 + u) 0) eo ∙ at h 2 u hh (omega arith) u-small in
       let a1 : getD look (o + 64 + v) 0 ≡ coded (entries p) h (v * 64) = ap (λ (x : ℕ). getD look (x + 64 + v) 0) eo ∙ at h 1 v hh (omega arith) v-small in
       let a0 : getD look (o + b) 0 ≡ coded (entries p) h b =
-      ap (λ (x : ℕ). getD look (x + b) 0) (eo ∙ sym (add-zero (192 * h))) ∙ at h 0 b hh (omega arith) both-small ∙ ap (coded (entries p) h) (mul-one b) in
+      ap (λ (x : ℕ). getD look (x + b) 0) (eo ∙ sym (add-zero (192 * h))) ∙ at h 0 b hh (omega arith) (sent-both p n w out c q S) ∙ ap (coded (entries p) h) (mul-one b) in
       let j1 : coded (entries p) h (u * 4096 + v * 64) ≡ bitXor (coded (entries p) h (u * 4096)) (coded (entries p) h (v * 64)) =
       coded-sum (entries p) h (u * 4096) (v * 64) (u * 4096 + v * 64) (joins-apart 12 u (v * 64) (omega (arith, v-small))) in
       let m : (u * 64 + v) * 64 ≡ u * 4096 + v * 64 = omega arith in
       let j0 : coded (entries p) h ((u * 64 + v) * 64 + b) ≡ bitXor (coded (entries p) h ((u * 64 + v) * 64)) (coded (entries p) h b) =
-      coded-sum (entries p) h ((u * 64 + v) * 64) b ((u * 64 + v) * 64 + b) (joins-apart 6 (u * 64 + v) b both-small) in
+      coded-sum (entries p) h ((u * 64 + v) * 64) b ((u * 64 + v) * 64 + b) (joins-apart 6 (u * 64 + v) b (sent-both p n w out c q S)) in
       ap₂ bitXor (ap₂ bitXor a2 a1 ∙ sym j1 ∙ ap (coded (entries p) h) (sym m)) a0 ∙ sym j0 ∙ ap (coded (entries p) h) (ap₂ _+_ m (S .registers))
 
   value-is : told look o u v (c .both) / 64 ≡ number (codeBit p n w) (placeOf (c .sink)) k
@@ -301,14 +303,47 @@ module _ (p n : ℕ) (w z look : List ℕ) (k0 k1 : ℕ) (P : Prepared p n w z l
   unfolding planOf
   bits1 = P .bits1
 
-  pub even-asks : q % 2 ≡ 0 → (0 ≤ 192) × (u < 64) × (v < 64) × (c .both < 64)
-  even-asks e = sent-asks p n w out look c q u v 0 k0 0 hp (P .looks) S hq eu ev (sym e) bits0 refl
-
-  pub even-gives : q % 2 ≡ 0 → (r : Coder) (m : List ℕ) → Is (chunked out look 0 k0 c u v) r m → Sent p n w m r (q + 1) × (length m ≡ length out)
+  even-gives : q % 2 ≡ 0 → (r : Coder) (m : List ℕ) → Is (chunked out look 0 k0 c u v) r m → Sent p n w m r (q + 1) × (length m ≡ length out)
   even-gives e = sent-more p n w out look c q u v 0 k0 0 hp (P .looks) S hq eu ev (sym e) bits0 refl
 
-  pub odd-asks : q % 2 ≡ 1 → (192 ≤ 192) × (u < 64) × (v < 64) × (c .both < 64)
-  odd-asks e = sent-asks p n w out look c q u v 1 k1 192 hp (P .looks) S hq eu ev (sym e) bits1 refl
-
-  pub odd-gives : q % 2 ≡ 1 → (r : Coder) (m : List ℕ) → Is (chunked out look 192 k1 c u v) r m → Sent p n w m r (q + 1) × (length m ≡ length out)
+  odd-gives : q % 2 ≡ 1 → (r : Coder) (m : List ℕ) → Is (chunked out look 192 k1 c u v) r m → Sent p n w m r (q + 1) × (length m ≡ length out)
   odd-gives e = sent-more p n w out look c q u v 1 k1 192 hp (P .looks) S hq eu ev (sym e) bits1 refl
+
+-- ---- three bytes of both: their upper eighteen bits, and the last six
+module _ (p n : ℕ) (w z look : List ℕ) (k0 k1 : ℕ) (P : Prepared p n w z look k0 k1) (i x y : ℕ)
+    (ex : x ≡ getD w (3 * i) 0 * 65536 + getD w (3 * i + 1) 0 * 256 + getD w (3 * i + 2) 0) (ey : y ≡ getD z (3 * i) 0 * 65536 + getD z (3 * i + 1) 0 * 256 + getD z (3 * i + 2) 0)
+    (room : 24 * i + 18 ≤ n) where
+  hi : i < 512
+  hi = omega (arith, coded-bounds p n (P .coded) .2)
+
+  pub eighteen-sent : (out : List ℕ) (c : Coder) → Sent p n w out c (4 * i) → (r : Coder) (m : List ℕ) → Is (thrice out look k0 k1 c x y) r m
+      → Sent p n w m r (4 * i + 3) × (length m ≡ length out)
+  unfolding thrice
+  eighteen-sent out c S r m K =
+      let s0 = sixes p n w z look k0 k1 P i x y hi ex ey 0 (omega arith) (omega arith) in
+      let s1 = sixes p n w z look k0 k1 P i x y hi ex ey 1 (omega arith) (omega arith) in
+      let s2 = sixes p n w z look k0 k1 P i x y hi ex ey 2 (omega arith) (omega arith) in
+      let a : Outcome Coder (List ℕ) = chunked out look 0 k0 c (x / 262144 % 64) (y / 262144 % 64) in
+      let b : Outcome Coder (List ℕ) = chunked (a .memory) look 192 k1 (a .answer) (x / 4096 % 64) (y / 4096 % 64) in
+      let S0 : Sent p n w out c (4 * i + 0) = subst (Sent p n w out c) (sym (add-zero (4 * i))) S in
+      let A = even-gives p n w z look k0 k1 P out c (4 * i + 0) (x / 262144 % 64) (y / 262144 % 64) S0 (omega arith) (s0 .0) (s0 .1) (omega arith) (a .answer) (a .memory) (record { answer = refl; memory = refl }) in
+      let S1 : Sent p n w (a .memory) (a .answer) (4 * i + 1) = subst (Sent p n w (a .memory) (a .answer)) {x = 4 * i + 0 + 1} {y = 4 * i + 1} (omega arith) (A .0) in
+      let B = odd-gives p n w z look k0 k1 P (a .memory) (a .answer) (4 * i + 1) (x / 4096 % 64) (y / 4096 % 64) S1 (omega arith) (s1 .0) (s1 .1) (omega arith) (b .answer) (b .memory) (record { answer = refl; memory = refl }) in
+      let S2 : Sent p n w (b .memory) (b .answer) (4 * i + 2) = subst (Sent p n w (b .memory) (b .answer)) {x = 4 * i + 1 + 1} {y = 4 * i + 2} (omega arith) (B .0) in
+      let C = even-gives p n w z look k0 k1 P (b .memory) (b .answer) (4 * i + 2) (x / 64 % 64) (y / 64 % 64) S2 (omega arith) (s2 .0) (s2 .1) (omega arith) r m K in
+      (subst (Sent p n w m r) {x = 4 * i + 2 + 1} {y = 4 * i + 3} (omega arith) (C .0), C .1 ∙ B .1 ∙ A .1)
+
+  pub last-sent : 24 * i + 24 ≤ n → (out : List ℕ) (c : Coder) → Sent p n w out c (4 * i + 3) → (r : Coder) (m : List ℕ) → Is (chunked out look 192 k1 c (x % 64) (y % 64)) r m
+      → Sent p n w m r (4 * (i + 1)) × (length m ≡ length out)
+  last-sent l out c S r m K =
+      let s = last-six p n w z look k0 k1 P i x y hi ex ey l in
+      let A = odd-gives p n w z look k0 k1 P out c (4 * i + 3) (x % 64) (y % 64) S (omega arith) (s .0) (s .1) (omega arith) r m K in
+      (subst (Sent p n w m r) {x = 4 * i + 3 + 1} {y = 4 * (i + 1)} (omega arith) (A .0), A .1)
+
+-- an outcome from that of a call before
+pub then : (o : Outcome Coder (List ℕ)) (f : List ℕ → Coder → Outcome Coder (List ℕ)) (c : Coder) (m : List ℕ) (r : Coder) (m' : List ℕ) → Is o c m → Is (f m c) r m'
+    → Is (f (o .memory) (o .answer)) r m'
+then o f c m r m' h k = record {
+  answer = k .answer ∙ ap₂ (λ (a : List ℕ) (b : Coder). f a b .answer) (h .memory) (h .answer);
+  memory = k .memory ∙ ap₂ (λ (a : List ℕ) (b : Coder). f a b .memory) (h .memory) (h .answer);
+}

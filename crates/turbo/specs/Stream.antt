@@ -36,6 +36,13 @@ chunked out look o k c u v =
     let t = wider out (c .sink) (z / 64) k in
     record { answer = record { sink = t .answer; both = z % 64 }; memory = t .memory }
 
+-- six bit periods three times more, of half 0, half 1 and half 0: the upper 18 of 24 bits of each encoder
+unfoldable pub thrice : List ℕ → List ℕ → ℕ → ℕ → Coder → ℕ → ℕ → Outcome Coder (List ℕ)
+thrice out look k0 k1 c x y =
+    let a = chunked out look 0 k0 c (x / 262144 % 64) (y / 262144 % 64) in
+    let b = chunked (a .memory) look 192 k1 (a .answer) (x / 4096 % 64) (y / 4096 % 64) in
+    chunked (b .memory) look 0 k0 (b .answer) (x / 64 % 64) (y / 64 % 64)
+
 -- the registers of both encoders in one number
 abbrev pub both : State → State → ℕ
 both s t = (s .a1 * 4 + s .a2 * 2 + s .a3) * 8 + (t .a1 * 4 + t .a2 * 2 + t .a3)

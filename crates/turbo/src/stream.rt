@@ -9,7 +9,7 @@ ghost use Rattle.patterns.specs.Blocks.{Coded};
 ghost use Rattle.patterns.specs.Rows.{copies};
 ghost use Rattle.patterns.specs.Sent.{places, total};
 ghost use Rattle.interleaver.specs.Read.{interleaved};
-ghost use Rattle.turbo.specs.Stream.{codeBit, chunked, Prepared, Sent};
+ghost use Rattle.turbo.specs.Stream.{codeBit, chunked, thrice, Prepared, Sent};
 
 // The sink, and the registers of both encoders in one number.
 pub struct Coder {
@@ -55,54 +55,25 @@ fn chunk(
     }
 }
 
-// The 24 groups of three bytes: half 0 of the pattern's twelve groups, half 1, and both again.
-fn turn(
+// Eighteen bit periods more, of the upper 18 of the 24 bits x of encoder 1 and y of encoder 2: half 0 of the pattern's twelve groups, half 1, and half 0 again.
+fn eighteen(
     out: &mut [u8],
-    word: &[u8],
-    second: &[u8],
-    pattern: usize,
-    n: usize,
     look: &[u64; 384],
     k0: usize,
     k1: usize,
     c: Coder,
-    i: usize,
+    x: usize,
+    y: usize,
 ) -> Coder
-    requires { ⌜ Prepared pattern n (now word) (now second) (now look) k0 k1 × Sent pattern n (now word) (now out) c (4 * i) × (24 * i + 24 ≤ n) ⌝ }
-    ensures { λ r. ⌜ Sent pattern n (now (word .entry)) (now (out .exit)) r (4 * i + 4) × (length (now (out .exit)) ≡ length (now (out .entry))) ⌝ }
+    requires { ⌜ c .both < 64 ⌝ }
+    ensures { λ r. ⌜ Is (thrice (now (out .entry)) (now (look .entry)) k0 k1 c x y) r (now (out .exit)) ⌝ }
 {
-    let x = three(word, 3 * i);
-    let y = three(second, 3 * i);
-    let c1 = chunk(out, look, 0, k0, c, x / 262144 % 64, y / 262144 % 64);
-    let c2 = chunk(out, look, 192, k1, c1, x / 4096 % 64, y / 4096 % 64);
-    let c3 = chunk(out, look, 0, k0, c2, x / 64 % 64, y / 64 % 64);
-    chunk(out, look, 192, k1, c3, x % 64, y % 64)
-}
-
-// The last 18 groups.
-fn last(
-    out: &mut [u8],
-    word: &[u8],
-    second: &[u8],
-    pattern: usize,
-    n: usize,
-    look: &[u64; 384],
-    k0: usize,
-    k1: usize,
-    c: Coder,
-    i: usize,
-) -> Coder
-    requires { ⌜ Prepared pattern n (now word) (now second) (now look) k0 k1 × Sent pattern n (now word) (now out) c (4 * i) × (24 * i + 18 ≡ n) ⌝ }
-    ensures { λ r. ⌜ Sent pattern n (now (word .entry)) (now (out .exit)) r (4 * i + 3) × (length (now (out .exit)) ≡ length (now (out .entry))) ⌝ }
-{
-    let x = three(word, 3 * i);
-    let y = three(second, 3 * i);
     let c1 = chunk(out, look, 0, k0, c, x / 262144 % 64, y / 262144 % 64);
     let c2 = chunk(out, look, 192, k1, c1, x / 4096 % 64, y / 4096 % 64);
     chunk(out, look, 0, k0, c2, x / 64 % 64, y / 64 % 64)
 }
 
-// All groups of the data.
+// All groups of the data: 24 to three bytes, and of the last three bytes 18.
 fn send(
     out: &mut [u8],
     word: &[u8],
@@ -126,11 +97,16 @@ fn send(
     };
     let end = n / 24;
     let mut i = 0;
-    while i < end {
-        c = turn(out, word, second, pattern, n, look, k0, k1, c, i);
+    loop {
+        let x = three(word, 3 * i);
+        let y = three(second, 3 * i);
+        c = eighteen(out, look, k0, k1, c, x, y);
+        if end <= i {
+            return c;
+        }
+        c = chunk(out, look, 192, k1, c, x % 64, y % 64);
         i += 1;
     }
-    last(out, word, second, pattern, n, look, k0, k1, c, end)
 }
 
 // The codeword of a block of n bits: what the pattern sends of its data, and of the tail behind them. It has whole words of four bytes, so that nothing is left in the sink.

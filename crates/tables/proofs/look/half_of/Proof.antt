@@ -1,5 +1,5 @@
 -- `tables::look::half_of` meets its contract. Assumes nothing.
-use Prim.Native.Nat.{ℕ, _-_, _≤_}
+use Prim.Native.Nat.{ℕ, _-_, _*_, _≤_}
 use mathlib.Core.Path.{_≡_, subst}
 use native.Mathlib.Omega.{arith}
 use denote.Ref.{now}
@@ -13,29 +13,32 @@ use Rattle.tables.proofs.look.half_of.Lts as lts
 use Rattle.tables.proofs.look.sixty_four.Reads as sixty-four-reads
 
 abbrev Inv-loop : tie.InvT-loop
-Inv-loop t₀ at rows h w alone j₀ t j = (j ≤ 3) × Halved rows h at j t₀ t
+Inv-loop t₀ rows h w alone j₀ t j = (j ≤ 3) × Halved rows h (192 * h) j t₀ t
 
 abbrev μ-loop : tie.MeasureT-loop
-μ-loop t₀ at rows h w alone j₀ t j = 3 - j
+μ-loop t₀ rows h w alone j₀ t j = 3 - j
 
 loop-holds : tie.Need-loop-holds Inv-loop μ-loop
-loop-holds c = let a = c .before .args in (omega arith, halved-none (now (a .rows)) (a .h) (a .at) (a .t .now))
+loop-holds c = let a = c .before .args in (omega arith, halved-none (now (a .rows)) (a .h) (192 * a .h) (a .t .now))
 
 mul-sixty-four : tie.Need-mul-sixty-four Inv-loop μ-loop
 mul-sixty-four c = search needs
 
-add-sixty-four : tie.Need-add-sixty-four Inv-loop μ-loop
-add-sixty-four c = omega (arith, c .before .before .before .before .pre .2)
-
 mul-sixty-four-2 : tie.Need-mul-sixty-four-2 Inv-loop μ-loop
 mul-sixty-four-2 c = search needs
+
+add-sixty-four : tie.Need-add-sixty-four Inv-loop μ-loop
+add-sixty-four c = search needs
+
+mul-sixty-four-3 : tie.Need-mul-sixty-four-3 Inv-loop μ-loop
+mul-sixty-four-3 c = search needs
 
 sixty-four-requires : tie.Need-sixty-four-requires Inv-loop μ-loop
 sixty-four-requires c κs =
     let l = c .before .before .loop in
     let p = c .before .before .before .before .pre in
     let k = c .before .loop-test .taken in
-    (p .0, p .1, omega (arith, k), omega (arith, k, p .2, l .inv .1 .len))
+    (p .0, p .1, omega (arith, k), omega (arith, k, p .2, p .3, l .inv .1 .len))
 
 add-j : tie.Need-add-j Inv-loop μ-loop
 add-j c = search needs
@@ -48,7 +51,7 @@ loop-again c =
     let l = c .before .before .before .before .before .loop in
     let a = c .before .before .before .before .before .before .before .args in (
       omega (arith, c .before .before .before .before .loop-test .taken),
-      halved-more (now (a .rows)) (a .h) (a .at) (l .j) (a .t .now) (l .t) (c .before .before .sixty-four .last .0) (l .inv .1) (c .before .before .sixty-four .ensures),
+      halved-more (now (a .rows)) (a .h) (192 * a .h) (l .j) (a .t .now) (l .t) (c .before .before .sixty-four .last .0) (l .inv .1) (c .before .before .sixty-four .ensures),
     )
 
 same-length : tie.Need-same-length Inv-loop μ-loop
@@ -58,7 +61,7 @@ returns : tie.Need-returns Inv-loop μ-loop
 returns c =
     let l = c .before .loop in
     let a = c .before .before .before .args in
-    subst (λ (x : ℕ). Halved (now (a .rows)) (a .h) (a .at) x (a .t .now) (l .t)) {x = l .j} {y = 3} (omega (arith, c .loop-test .left, l .inv .0)) (l .inv .1)
+    subst (λ (x : ℕ). Halved (now (a .rows)) (a .h) (192 * a .h) x (a .t .now) (l .t)) {x = l .j} {y = 3} (omega (arith, c .loop-test .left, l .inv .0)) (l .inv .1)
 
 pub half-of-spec : {M : Type 1} → statement M
 half-of-spec =
@@ -68,8 +71,9 @@ half-of-spec =
     μ-loop
     loop-holds
     mul-sixty-four
-    add-sixty-four
     mul-sixty-four-2
+    add-sixty-four
+    mul-sixty-four-3
     sixty-four-requires
     add-j
     loop-less

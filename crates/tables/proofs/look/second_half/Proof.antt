@@ -40,7 +40,7 @@ weights-of-requires : tie.Need-weights-of-requires
 weights-of-requires c κs = search needs
 
 half-of-requires : tie.Need-half-of-requires
-half-of-requires c κs = let p = c .before .before .before .before .before .before .before .pre in (c .before .before .before .weights-of .ensures .weights, p .0, omega (arith, p .1))
+half-of-requires c κs = let p = c .before .before .before .before .before .before .before .pre in (c .before .before .before .weights-of .ensures .weights, p .0, omega arith, p .1)
 
 sub-result : tie.Need-sub-result
 sub-result c = omega (arith, c .before .before .before .before .before .before .before .weights-of .ensures .bits, half-six (now (c .before .before .before .before .before .before .before .before .before .before .before .args .rows)) 1)
