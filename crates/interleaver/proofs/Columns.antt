@@ -12,9 +12,10 @@ use Rattle.ground.specs.Table.{allBelow}
 use Rattle.ground.proofs.Table.{at-all}
 use Rattle.bits.specs.Places.{number}
 use Rattle.bits.proofs.Places.{number-lt, number-append}
-use Rattle.interleaver.specs.Order.{reversed}
-use Rattle.interleaver.specs.Rows.{rowAddress, column}
-use Rattle.interleaver.specs.Inside.{Paired, Place, pairAt, digits, Two, rowPair, Both}
+use Rattle.order.specs.Order.{reversed}
+use Rattle.order.specs.Rows.{rowAddress, column}
+use Rattle.pairs.specs.Pairs.{Paired}
+use Rattle.interleaver.specs.Inside.{Place, pairAt, digits, Two, rowPair, Both}
 
 -- the columns that are read lie in the 24 segments
 inside : ℕ → Bool

@@ -18,12 +18,13 @@ use Rattle.ground.proofs.Choice.{choose-true, choose-false}
 use Rattle.ground.proofs.Table.{at-all}
 use Rattle.bits.specs.Places.{number}
 use Rattle.bits.proofs.Places.{number-more, number-cong, number-move}
-use Rattle.interleaver.specs.Order.{parameter, entries5, entries9, entry, reversed, address, kept, order}
-use Rattle.interleaver.specs.Once.{Block}
-use Rattle.interleaver.specs.Rows.{rowAddress, column}
-use Rattle.interleaver.specs.Inside.{Paired, rowPair, halfOf, shortAt, rowValue, rowWidth, readBit}
-use Rattle.interleaver.proofs.Kept.{count, count-mono, count9, count5}
-use Rattle.interleaver.proofs.Rows.{row-at, row-whole, row-short}
+use Rattle.order.specs.Order.{parameter, entries5, entries9, entry, reversed, address, kept, order}
+use Rattle.order.specs.Once.{Block}
+use Rattle.order.specs.Rows.{rowAddress, column}
+use Rattle.pairs.specs.Pairs.{Paired}
+use Rattle.interleaver.specs.Inside.{rowPair, halfOf, shortAt, rowValue, rowWidth, readBit}
+use Rattle.order.proofs.Kept.{count, count-mono, count9, count5}
+use Rattle.order.proofs.Rows.{row-at, row-whole, row-short}
 use Rattle.interleaver.proofs.Columns.{segment-most, pair-first}
 
 -- ---- the two sizes of block

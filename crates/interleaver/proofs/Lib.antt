@@ -1,9 +1,3 @@
-pub mod Kept
-pub mod Inverse
-pub mod Once
-pub mod Rows
-pub mod Spreading
-pub mod Coupling
 pub mod Columns
 pub mod Gathering
 pub mod Sinking

@@ -17,11 +17,12 @@ use Rattle.bits.specs.Places.{number}
 use Rattle.bits.specs.Held.{placeOf, Held, Put}
 use Rattle.bits.specs.declared.wide.Wide.{Wide}
 use Rattle.bits.proofs.Places.{number-lt}
-use Rattle.interleaver.specs.Order.{parameter, entries5, entries9, entry, reversed, address, kept}
-use Rattle.interleaver.specs.Once.{Block}
-use Rattle.interleaver.specs.Rows.{rowAddress}
-use Rattle.interleaver.specs.Inside.{Paired, rowPair, Both, halfOf, Listed, Halves, shortAt, rowValue, rowWidth, readBit, Behind, Sunk, Gathered}
-use Rattle.interleaver.proofs.Kept.{count, length-kept}
+use Rattle.order.specs.Order.{parameter, entries5, entries9, entry, reversed, address, kept}
+use Rattle.order.specs.Once.{Block}
+use Rattle.order.specs.Rows.{rowAddress}
+use Rattle.pairs.specs.Pairs.{Paired}
+use Rattle.interleaver.specs.Inside.{rowPair, Both, halfOf, Listed, Halves, shortAt, rowValue, rowWidth, readBit, Behind, Sunk, Gathered}
+use Rattle.order.proofs.Kept.{count, length-kept}
 use Rattle.interleaver.proofs.Columns.{pair-first}
 use Rattle.interleaver.proofs.Gathering.{sized, fellow-number, read-bit, read-behind, rows-most, row-count, row-number}
 

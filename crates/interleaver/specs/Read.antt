@@ -6,7 +6,7 @@ use lib.Dec.{ltb, eqb}
 use lib.ListN.{getD}
 use Rattle.ground.specs.Choice.{choose}
 use Rattle.bits.specs.Places.{bitAt, packed}
-use Rattle.interleaver.specs.Order.{order}
+use Rattle.order.specs.Order.{order}
 
 -- the block that a number of bits stands for
 unfoldable pub blockFor : ℕ → ℕ

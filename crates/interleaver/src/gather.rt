@@ -7,10 +7,10 @@ ghost use Prim.Native.Nat.{ℕ, _+_, _*_, _^_, _<_, _≤_};
 ghost use lib.ListN.{length, getD, replicate};
 ghost use Rattle.bits.specs.Places.{number};
 ghost use Rattle.bits.specs.Held.{placeOf, Put};
-ghost use Rattle.interleaver.specs.Order.{parameter, reversed};
-ghost use Rattle.interleaver.specs.Once.{Block};
+ghost use Rattle.order.specs.Order.{parameter, reversed};
+ghost use Rattle.order.specs.Once.{Block};
+ghost use Rattle.pairs.specs.Pairs.{Paired};
 ghost use Rattle.interleaver.specs.Inside.{
-  Paired,
   Place,
   pairAt,
   sixOf,

@@ -16,7 +16,7 @@ use Rattle.description.specs.Sheet.{header, records, sheetOf, sheet}
 use Rattle.description.specs.Tests.{versionFault, listsFault, anySet, widthWrong, widthFault, tapsWrong, tapFault, member, idFault}
 use Rattle.description.specs.Word.{multiplexIn, pIn, pipesIn, tailIn, sIn, dIn, streamsIn, sectionsIn, spareFault, crcFault, paddingFault, wordFaults}
 use Rattle.description.specs.Form1.{headerFault, sheetSections, sheetLists, listsStated, topFault, countFault, sheetFaults}
-use Rattle.interleaver.specs.Order.{parameter, entries5, entries9, entry, reversed, address, kept}
+use Rattle.order.specs.Order.{parameter, entries5, entries9, entry, reversed, address, kept}
 use Rattle.constituent.specs.Constituent.{y0, y1, next, state, feed, clocked}
 use Rattle.constituent.specs.Symbols.{tailSymbols1}
 use Rattle.points.specs.Points.{Point, points}

@@ -16,7 +16,7 @@ use Rattle.description.specs.Rules.{size}
 use Rattle.description.specs.Sheet.{sheet}
 use Rattle.description.specs.Word.{pIn, sIn, dIn, wordFaults}
 use Rattle.description.specs.Form1.{sheetFaults}
-use Rattle.interleaver.specs.Order.{parameter, address, keepIf}
+use Rattle.order.specs.Order.{parameter, address, keepIf}
 use Rattle.constituent.specs.Constituent.{y0, y1, state, clocked}
 use Rattle.constituent.specs.Symbols.{tailSymbols1}
 

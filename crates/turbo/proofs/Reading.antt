@@ -15,7 +15,7 @@ use Rattle.ground.proofs.Choice.{choose-true}
 use Rattle.ground.proofs.Table.{getD-tab}
 use Rattle.bits.specs.Places.{bitAt, number, packed}
 use Rattle.bits.proofs.Places.{bit-lt, number-lt, number-cong, number-append, number-bit, packed-length}
-use Rattle.interleaver.specs.Order.{order}
+use Rattle.order.specs.Order.{order}
 use Rattle.interleaver.specs.Read.{interleavedBit, interleaved}
 use Rattle.turbo.specs.Lane.{second}
 use Rattle.constituent.specs.Six.{bitOf}

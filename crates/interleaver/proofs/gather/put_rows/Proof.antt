@@ -4,7 +4,7 @@ use mathlib.Core.Path.{_≡_, subst}
 use native.Mathlib.Omega.{arith}
 use lib.ListN.{length}
 use Rattle.bits.specs.Held.{placeOf}
-use Rattle.interleaver.specs.Order.{parameter}
+use Rattle.order.specs.Order.{parameter}
 use Rattle.interleaver.specs.Inside.{Sunk, halfOf}
 use Rattle.interleaver.proofs.Gathering.{sized}
 use Rattle.interleaver.proofs.Sinking.{row-room, sunk-none, sunk-more}

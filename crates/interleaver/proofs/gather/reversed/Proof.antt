@@ -1,6 +1,6 @@
 -- `interleaver::gather::reversed` meets its contract. Assumes nothing.
 use mathlib.Core.Path.{refl}
-use Rattle.interleaver.specs.Order.{reversed}
+use Rattle.order.specs.Order.{reversed}
 use borrow.Author.Needs.{needs}
 use Rattle.interleaver.proofs.gather.reversed.Statement.{statement}
 use Rattle.interleaver.proofs.gather.reversed.Tie as tie

@@ -1,8 +1,8 @@
 -- `interleaver::gather::rows5` meets its contract. Assumes nothing.
 use denote.Ref.{now}
 use Rattle.bits.specs.Places.{number}
-use Rattle.interleaver.specs.Order.{entries5, entry}
-use Rattle.interleaver.specs.Rows.{rowAddress}
+use Rattle.order.specs.Order.{entries5, entry}
+use Rattle.order.specs.Rows.{rowAddress}
 use Rattle.interleaver.specs.Inside.{pairAt, sixOf, rowPair}
 use Rattle.interleaver.proofs.Columns.{row-of}
 use borrow.Author.Needs.{needs}

@@ -2,7 +2,8 @@
 use Prim.Native.Nat.{ℕ, _^_}
 use mathlib.Core.Path.{sym, subst}
 use denote.Ref.{now}
-use Rattle.interleaver.specs.Inside.{Paired, Both}
+use Rattle.pairs.specs.Pairs.{Paired}
+use Rattle.interleaver.specs.Inside.{Both}
 use Rattle.interleaver.proofs.Sinking.{parameter-long, parameter-short}
 use Rattle.interleaver.proofs.gather.rows_of.Statement.{statement}
 use Rattle.interleaver.proofs.gather.rows_of.Tie as tie

@@ -14,10 +14,10 @@ use borrow.Author.Tests.{le-ltb, lt-leb, ne-eqb}
 use Rattle.ground.specs.Choice.{either}
 use Rattle.ground.specs.Table.{allBelow}
 use Rattle.ground.proofs.Table.{at-all}
-use Rattle.interleaver.specs.Order.{entry, reversed, address, kept}
-use Rattle.interleaver.specs.Rows.{rowAddress, column}
-use Rattle.interleaver.proofs.Kept.{count, count-keep, count-drop}
-use Rattle.interleaver.proofs.Once.{kept-at}
+use Rattle.order.specs.Order.{entry, reversed, address, kept}
+use Rattle.order.specs.Rows.{rowAddress, column}
+use Rattle.order.proofs.Kept.{count, count-keep, count-drop}
+use Rattle.order.proofs.Once.{kept-at}
 
 address-row : (n i low : ℕ) → low < 32 → address n (32 * i + low) ≡ rowAddress n (i + 1) low
 unfolding address rowAddress

@@ -13,10 +13,10 @@ use lib.Dec.{ltb, lit≤}
 use lib.ListN.{length, getD, List·getD-append}
 use lib.Seq.{getD-append-seam}
 use borrow.Author.Tests.{lt-ltb}
-use Rattle.interleaver.specs.Order.{parameter, address, keepIf, kept, order}
-use Rattle.interleaver.specs.Once.{Block, Once, Permutes}
-use Rattle.interleaver.proofs.Kept.{count, length-kept, count-mono, count-keep, count-drop, count-le, count9, count5}
-use Rattle.interleaver.proofs.Inverse.{counter, Inverts, inverts9, inverts5}
+use Rattle.order.specs.Order.{parameter, address, keepIf, kept, order}
+use Rattle.order.specs.Once.{Block, Once, Permutes}
+use Rattle.order.proofs.Kept.{count, length-kept, count-mono, count-keep, count-drop, count-le, count9, count5}
+use Rattle.order.proofs.Inverse.{counter, Inverts, inverts9, inverts5}
 
 module _ (f : ℕ → ℕ) (N : ℕ) where
   -- the address of a counter value stands behind those kept before it

@@ -1,15 +1,15 @@
--- `interleaver::unpack::unpack` meets its contract. Assumes nothing.
+-- `pairs::segments` meets its contract. Assumes nothing.
 use Prim.Native.Nat.{_+_, _-_, _*_, _≤_}
 use mathlib.Core.Path.{_≡_, _∙_, subst}
 use native.Mathlib.Nat.{mul-le-mul, mul-le-mul-right}
 use native.Mathlib.Omega.{arith}
 use lib.ListN.{length}
-use Rattle.interleaver.proofs.Coupling.{Segments, segments-none, segments-more, segments-all}
-use Rattle.interleaver.proofs.unpack.unpack.Statement.{statement}
-use Rattle.interleaver.proofs.unpack.unpack.Tie as tie
-use Rattle.interleaver.proofs.unpack.unpack.Reads as reads
-use Rattle.interleaver.proofs.unpack.unpack.Lts as lts
-use Rattle.interleaver.proofs.unpack.couple.Reads as couple-reads
+use Rattle.pairs.proofs.Coupling.{Segments, segments-none, segments-more, segments-all}
+use Rattle.pairs.proofs.segments.Statement.{statement}
+use Rattle.pairs.proofs.segments.Tie as tie
+use Rattle.pairs.proofs.segments.Reads as reads
+use Rattle.pairs.proofs.segments.Lts as lts
+use Rattle.pairs.proofs.couple.Reads as couple-reads
 
 abbrev Inv-loop : tie.InvT-loop
 Inv-loop t word d₀ half s₀ d s = (s ≤ 24) × Segments word half d₀ d s
@@ -36,8 +36,8 @@ couple-requires c κs =
     let b = c .before .before .before .before in
     let l = c .before .before .loop in
     let p : (l .s + 1) * (b .args .half * 2) ≤ 24 * (b .args .half * 2) = mul-le-mul-right (b .args .half * 2) (omega arith) in
-    let r : 8 * (l .s * (b .args .half * 2) + b .args .half * 2) ≤ length (l .d) = omega (arith, p, l .inv .1 .len, b .pre .2) in
-    (b .pre .0, omega (arith, p, b .pre .1), r)
+    let r : 8 * (l .s * (b .args .half * 2) + b .args .half * 2) ≤ length (l .d) = omega (arith, p, l .inv .1 .len, b .pre .3) in
+    (b .pre .0, omega (arith, p, b .pre .2), r)
 
 add-s : tie.Need-add-s Inv-loop μ-loop
 add-s c = omega (arith, c .before .before .before .before .loop-test .taken)
@@ -59,10 +59,10 @@ returns c =
     let b = c .before .before .before in
     let l = c .before .loop in
     let e : l .s ≡ 24 = omega (arith, l .inv .0) in
-    segments-all (b .args .word .now) (b .args .half) (b .args .d .now) (l .d) (subst (Segments (b .args .word .now) (b .args .half) (b .args .d .now) (l .d)) e (l .inv .1)) (l .inv .1 .len ∙ b .pre .2)
+    segments-all (b .args .word .now) (b .args .half) (b .args .d .now) (l .d) (subst (Segments (b .args .word .now) (b .args .half) (b .args .d .now) (l .d)) e (l .inv .1)) (l .inv .1 .len ∙ b .pre .3) (b .pre .1)
 
-pub unpack-spec : {M : Type 1} → statement M
-unpack-spec =
+pub segments-spec : {M : Type 1} → statement M
+segments-spec =
     tie.close
     (tie.spec
     Inv-loop

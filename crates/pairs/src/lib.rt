@@ -1,13 +1,27 @@
-// The bits of a word, a byte to a bit, each with the bit half a segment on (clause 4.4.4). A segment is the addresses with the same five high bits, and its
+// The bits of a block, a byte to a bit, each with the bit half a segment on (clause 4.4.4). A segment is the addresses with the same five high bits, and its
 // size is the number of rows. Every entry of table 10 is odd, so where a row reads a place of a segment, the row half of all rows on reads the place half a
 // segment on: one read serves two rows.
 ghost use mathlib.Core.Path.{_≡_};
 ghost use Prim.Native.Nat.{_+_, _*_, _/_, _%_, _^_, _<_, _≤_};
 ghost use lib.ListN.{length};
-ghost use Rattle.interleaver.specs.Inside.{spread, Spreads, Stored, Coupled, Unpacked};
+ghost use Rattle.pairs.specs.Pairs.{pairsOf, unpacked};
+ghost use Rattle.pairs.specs.Inside.{Copied, spread, Spreads, Stored, Coupled};
+
+// The word's first 1,536 bytes, and zeros behind a shorter word.
+fn block_of(word: &[u8]) -> [u8; 1536]
+    ensures { λ r. ⌜ Copied (now (word .entry)) r ⌝ }
+{
+    let mut block = [0u8; 1536];
+    let mut i = 0;
+    while i < 1536 && i < word.len() {
+        block[i] = word[i];
+        i += 1;
+    }
+    block
+}
 
 // Of every byte its eight bits, a byte to a bit: those of its upper seven bits, moved on by one, and its low bit. Computed, since a constant table is laid out anew at every use.
-pub fn spread_table() -> [u64; 256]
+fn spread_table() -> [u64; 256]
     ensures { λ r. ⌜ Spreads r ⌝ }
 {
     let mut t = [0u64; 256];
@@ -61,13 +75,28 @@ fn couple(t: &[u64; 256], word: &[u8; 1536], d: &mut [u8], from: usize, half: us
 }
 
 // The 24 segments of a block, each of twice `half` bytes. Behind them no address is read.
-pub fn unpack(t: &[u64; 256], word: &[u8; 1536], d: &mut [u8], half: usize)
-    requires { ⌜ Spreads (now t) × (half ≤ 32) × (length (now d) ≡ 24 * (16 * half)) ⌝ }
-    ensures { λ _. ⌜ Unpacked (16 * half) (now (word .entry)) (now (d .exit)) ⌝ }
+fn segments(t: &[u64; 256], word: &[u8; 1536], d: &mut [u8], half: usize)
+    requires { ⌜ Spreads (now t) × (0 < half) × (half ≤ 32) × (length (now d) ≡ 24 * (16 * half)) ⌝ }
+    ensures { λ _. ⌜ now (d .exit) ≡ pairsOf (now (word .entry)) (16 * half) ⌝ }
 {
     let mut s = 0;
     while s < 24 {
         couple(t, word, d, s * (half * 2), half);
         s += 1;
+    }
+}
+
+// The pairs of a word's block into the lent bytes, 12,288 for the payload's block and 768 for the signalling word's. Places past the end of the word read 0.
+pub fn unpack(word: &[u8], d: &mut [u8])
+    ensures { λ _. ⌜ now (d .exit) ≡ unpacked (now (word .entry)) (now (d .entry)) ⌝ }
+{
+    let block = block_of(word);
+    let table = spread_table();
+    if d.len() == 12288 {
+        segments(&table, &block, d, 32);
+        return;
+    }
+    if d.len() == 768 {
+        segments(&table, &block, d, 2);
     }
 }

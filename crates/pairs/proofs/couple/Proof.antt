@@ -1,15 +1,15 @@
--- `interleaver::unpack::couple` meets its contract. Assumes nothing.
+-- `pairs::couple` meets its contract. Assumes nothing.
 use Prim.Native.Nat.{ℕ, _+_, _-_, _*_, _≤_, _<_}
 use mathlib.Core.Path.{_≡_, ap₂, subst}
 use native.Mathlib.Omega.{arith}
-use Rattle.interleaver.specs.Inside.{spread, Coupled}
-use Rattle.interleaver.proofs.Coupling.{coupled-none, coupled-more}
-use Rattle.interleaver.proofs.unpack.couple.Statement.{statement}
-use Rattle.interleaver.proofs.unpack.couple.Tie as tie
-use Rattle.interleaver.proofs.unpack.couple.Reads as reads
-use Rattle.interleaver.proofs.unpack.couple.Lts as lts
-use Rattle.interleaver.proofs.unpack.spread.Reads as spread-reads
-use Rattle.interleaver.proofs.unpack.store.Reads as store-reads
+use Rattle.pairs.specs.Inside.{spread, Coupled}
+use Rattle.pairs.proofs.Coupling.{coupled-none, coupled-more}
+use Rattle.pairs.proofs.couple.Statement.{statement}
+use Rattle.pairs.proofs.couple.Tie as tie
+use Rattle.pairs.proofs.couple.Reads as reads
+use Rattle.pairs.proofs.couple.Lts as lts
+use Rattle.pairs.proofs.spread.Reads as spread-reads
+use Rattle.pairs.proofs.store.Reads as store-reads
 
 abbrev Inv-loop : tie.InvT-loop
 Inv-loop t word d₀ from half y₀ d y = (y ≤ half) × Coupled word from half d₀ d y

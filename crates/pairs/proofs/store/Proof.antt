@@ -1,17 +1,17 @@
--- `interleaver::unpack::store` meets its contract. Assumes nothing.
+-- `pairs::store` meets its contract. Assumes nothing.
 use Prim.Native.Nat.{ℕ, _+_, _/_, _%_, _^_}
 use mathlib.Core.Path.{refl, sym, ap, subst}
 use mathlib.Core.List.{List}
 use native.Mathlib.Nat.{add-zero, div-one}
 use native.Mathlib.Omega.{arith}
 use lib.ListN.{set, length-set}
-use Rattle.interleaver.specs.Inside.{Stored}
-use Rattle.interleaver.proofs.Spreading.{stored-none, stored-more}
+use Rattle.pairs.specs.Inside.{Stored}
+use Rattle.pairs.proofs.Spreading.{stored-none, stored-more}
 use borrow.Author.Needs.{needs}
-use Rattle.interleaver.proofs.unpack.store.Statement.{statement}
-use Rattle.interleaver.proofs.unpack.store.Tie as tie
-use Rattle.interleaver.proofs.unpack.store.Reads as reads
-use Rattle.interleaver.proofs.unpack.store.Lts as lts
+use Rattle.pairs.proofs.store.Statement.{statement}
+use Rattle.pairs.proofs.store.Tie as tie
+use Rattle.pairs.proofs.store.Reads as reads
+use Rattle.pairs.proofs.store.Lts as lts
 
 cast-d : tie.Need-cast-d
 cast-d c = search needs

@@ -1,13 +1,13 @@
--- `interleaver::block_of` meets its contract. Assumes nothing.
+-- `pairs::block_of` meets its contract. Assumes nothing.
 use Prim.Native.Nat.{_-_, _≤_}
 use native.Mathlib.Omega.{arith}
 use lib.ListN.{length}
 use borrow.Author.Tests.{ltb-true, ltb-false}
-use Rattle.interleaver.proofs.Reading.{Copying, copying-none, copying-more, copying-all}
-use Rattle.interleaver.proofs.block_of.Statement.{statement}
-use Rattle.interleaver.proofs.block_of.Tie as tie
-use Rattle.interleaver.proofs.block_of.Reads as reads
-use Rattle.interleaver.proofs.block_of.Lts as lts
+use Rattle.pairs.proofs.Copying.{Copying, copying-none, copying-more, copying-all}
+use Rattle.pairs.proofs.block_of.Statement.{statement}
+use Rattle.pairs.proofs.block_of.Tie as tie
+use Rattle.pairs.proofs.block_of.Reads as reads
+use Rattle.pairs.proofs.block_of.Lts as lts
 
 abbrev Inv-loop : tie.InvT-loop
 Inv-loop word block₀ i₀ block i = (i ≤ 1536) × Copying word block i

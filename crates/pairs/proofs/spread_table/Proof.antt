@@ -1,11 +1,11 @@
--- `interleaver::unpack::spread_table` meets its contract. Assumes nothing.
+-- `pairs::spread_table` meets its contract. Assumes nothing.
 use Prim.Native.Nat.{_-_, _*_, _≤_}
 use native.Mathlib.Omega.{arith}
-use Rattle.interleaver.proofs.Spreading.{spread-most, Filled, filled-none, filled-more}
-use Rattle.interleaver.proofs.unpack.spread_table.Statement.{statement}
-use Rattle.interleaver.proofs.unpack.spread_table.Tie as tie
-use Rattle.interleaver.proofs.unpack.spread_table.Reads as reads
-use Rattle.interleaver.proofs.unpack.spread_table.Lts as lts
+use Rattle.pairs.proofs.Spreading.{spread-most, Filled, filled-none, filled-more}
+use Rattle.pairs.proofs.spread_table.Statement.{statement}
+use Rattle.pairs.proofs.spread_table.Tie as tie
+use Rattle.pairs.proofs.spread_table.Reads as reads
+use Rattle.pairs.proofs.spread_table.Lts as lts
 
 abbrev Inv-loop : tie.InvT-loop
 Inv-loop t₀ y₀ t y = (1 ≤ y) × (y ≤ 128) × Filled t (2 * y)

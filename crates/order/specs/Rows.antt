@@ -1,7 +1,7 @@
--- The order by rows, for contracts inside the crate and the laws: the 32 counter values with the same top bits are a row.
+-- The order by rows, for promises inside the library and the laws; no exported promise leads here: the 32 counter values with the same top bits are a row.
 -- Assumes nothing.
 use Prim.Native.Nat.{ℕ, _+_, _*_, _/_, _%_, _^_}
-use Rattle.interleaver.specs.Order.{entry, reversed}
+use Rattle.order.specs.Order.{entry, reversed}
 
 -- the address of the column low of the row j, counted from 1
 unfoldable pub rowAddress : ℕ → ℕ → ℕ → ℕ

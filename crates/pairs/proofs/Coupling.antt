@@ -3,14 +3,17 @@
 use Prim.Native.Nat.{ℕ, _+_, _-_, _*_, _/_, _%_, _^_, _≤_, _<_}
 use mathlib.Core.Path.{_≡_, refl, sym, ap, ap₂, _∙_, subst}
 use mathlib.Core.List.{List}
-use native.Mathlib.Nat.{mod-lt, mod-eq-of-lt, add-mod-right, div-add-mod', div-lt-iff-lt-mul, mul-le-mul-right}
+use native.Mathlib.Nat.{zero-add, mod-lt, mod-eq-of-lt, div-eq-of-lt, add-mul-div-right, add-mul-mod-self-right, add-mod-right, div-add-mod', div-lt-iff-lt-mul, mul-le-mul-right}
 use native.Mathlib.Decide.{decLt}
 use native.Mathlib.Omega.{arith}
 use lib.ListN.{length, getD, List·getD-eq-default}
+use Rattle.ground.specs.Table.{tab}
+use Rattle.ground.proofs.Table.{length-tab, getD-tab, tab-ext}
 use Rattle.bits.specs.Places.{bitAt}
 use Rattle.bits.proofs.Places.{bit-lt}
-use Rattle.interleaver.specs.Inside.{spread, Stored, couple, Coupled, Unpacked}
-use Rattle.interleaver.proofs.Spreading.{spread-digit, bit-of-byte}
+use Rattle.pairs.specs.Pairs.{couple, fellow, pairsOf, Paired}
+use Rattle.pairs.specs.Inside.{spread, Stored, Coupled}
+use Rattle.pairs.proofs.Spreading.{spread-digit, bit-of-byte}
 
 pub coupled-none : (w : List ℕ) (from half : ℕ) (d : List ℕ) → Coupled w from half d d 0
 coupled-none w from half d = record { len = refl; first = λ k h. absurd (omega arith); second = λ k h. absurd (omega arith); before = λ k h. refl }
@@ -79,7 +82,7 @@ segments-more w half d₀ d d' s h c =
       ];
     }
 
-module _ (w : List ℕ) (half : ℕ) (d₀ d : List ℕ) (h : Segments w half d₀ d 24) (n : length d ≡ 24 * (16 * half)) where
+module _ (w : List ℕ) (half : ℕ) (d₀ d : List ℕ) (h : Segments w half d₀ d 24) (n : length d ≡ 24 * (16 * half)) (some : 0 < half) where
   abbrev size : ℕ
   size = 16 * half
 
@@ -99,42 +102,56 @@ module _ (w : List ℕ) (half : ℕ) (d₀ d : List ℕ) (h : Segments w half d�
             ap (λ (z : ℕ). getD d z 0) (sym a) ∙ h .second r k l (omega arith) ∙ ap₂ (couple w) a (ap (λ (z : ℕ). r * (16 * half) + z) (sym f)))
       ]
 
-  -- a pair by its address
-  record Cell (a : ℕ) : Type 0 where
-    first : getD d a 0 % 64 ≡ bitAt w a
-    second : getD d a 0 / 64 < 2
+  pub segments-all : d ≡ pairsOf w (16 * half)
+  unfolding pairsOf
+  segments-all =
+      tab-ext (λ a. couple w a (fellow size a)) 0 (24 * size) d n
+      (λ a l.
+      let m : 0 < 16 * half = omega arith in
+      let e : a / (16 * half) * (16 * half) + a % (16 * half) ≡ a = div-add-mod' a (16 * half) in
+      subst (λ (z : ℕ). getD d z 0 ≡ couple w z (fellow size a)) e (cell (a / (16 * half)) (a % (16 * half)) (div-lt-iff-lt-mul m .1 l) (mod-lt a m)))
+
+-- ---- the pairs of a word
+module _ (w : List ℕ) (size : ℕ) (some : 0 < size) where
+  pair-at : (a : ℕ) → a < 24 * size → getD (pairsOf w size) a 0 ≡ couple w a (fellow size a)
+  unfolding pairsOf
+  pair-at a l = getD-tab (λ z. couple w z (fellow size z)) 0 0 (24 * size) a l ∙ ap (λ (z : ℕ). couple w z (fellow size z)) (zero-add a)
 
   halves : (v w₁ w₂ : ℕ) → v ≡ w₁ + 64 * w₂ → w₁ < 2 → (v % 64 ≡ w₁) × (v / 64 ≡ w₂)
   halves v w₁ w₂ e l = (omega arith, omega arith)
 
-  cell-at : (a : ℕ) → a < 24 * size → Cell a
-  cell-at a l =
-      let some : 0 < 16 * half = omega arith in
-      let e : a / (16 * half) * (16 * half) + a % (16 * half) ≡ a = div-add-mod' a (16 * half) in
-      let v = cell (a / (16 * half)) (a % (16 * half)) (div-lt-iff-lt-mul some .1 l) (mod-lt a some) in
-      let p : ℕ = a / (16 * half) * (16 * half) + (a % (16 * half) + 16 * half / 2) % (16 * half) in
-      let u : getD d a 0 ≡ couple w a p = subst (λ (z : ℕ). getD d z 0 ≡ couple w z p) e v in
-      let b = halves (getD d a 0) (bitAt w a) (bitAt w p) u (bit-lt w a) in
-      record { first = b .0; second = subst (λ (z : ℕ). z < 2) (sym (b .1)) (bit-lt w p) }
+  parts : (a : ℕ) → a < 24 * size → (getD (pairsOf w size) a 0 % 64 ≡ bitAt w a) × (getD (pairsOf w size) a 0 / 64 ≡ bitAt w (fellow size a))
+  parts a l = halves (getD (pairsOf w size) a 0) (bitAt w a) (bitAt w (fellow size a)) (pair-at a l) (bit-lt w a)
 
-  pub segments-all : Unpacked (16 * half) w d
-  segments-all = record {
-    bits = λ a l. cell-at a l .first;
-    pairs = record {
-      len = n;
-      first = λ k. elim (decLt k (24 * size)) [
-        | yes l ↦ subst (λ (z : ℕ). z < 2) (sym (cell-at k l .first)) (bit-lt w k)
-        | no l ↦ subst (λ (z : ℕ). z % 64 < 2) (sym (List·getD-eq-default d 0 {n = k} (omega arith))) (omega arith)
-      ];
-      second = λ k. elim (decLt k (24 * size)) [
-        | yes l ↦ cell-at k l .second
-        | no l ↦ subst (λ (z : ℕ). z / 64 < 2) (sym (List·getD-eq-default d 0 {n = k} (omega arith))) (omega arith)
-      ];
-      fellow = λ s x l m.
-          let p : ℕ = s * size + (x + size / 2) % size in
-          let q : (x + size / 2) % size < size = mod-lt (x + size / 2) (omega arith) in
-          let r : (s + 1) * size ≤ 24 * size = mul-le-mul-right size (omega arith) in
-          halves (getD d (s * size + x) 0) (bitAt w (s * size + x)) (bitAt w p) (cell s x l m) (bit-lt w (s * size + x)) .1
-          ∙ sym (cell-at p (omega arith) .first);
-    };
+  -- the first bits are the word's
+  pub paired-bit : (a : ℕ) → a < 24 * size → getD (pairsOf w size) a 0 % 64 ≡ bitAt w a
+  paired-bit a l = parts a l .0
+
+  len : length (pairsOf w size) ≡ 24 * size
+  unfolding pairsOf
+  len = length-tab (λ a. couple w a (fellow size a)) 0 (24 * size)
+
+  fellow-in : (s x : ℕ) → x < size → fellow size (s * size + x) ≡ s * size + (x + size / 2) % size
+  fellow-in s x h =
+      let c : s * size + x ≡ x + s * size = omega arith in
+      let q : (s * size + x) / size ≡ s = ap (λ (z : ℕ). z / size) c ∙ add-mul-div-right x s some ∙ ap (λ (z : ℕ). z + s) (div-eq-of-lt h) ∙ zero-add s in
+      let r : (s * size + x) % size ≡ x = ap (λ (z : ℕ). z % size) c ∙ add-mul-mod-self-right x s size ∙ mod-eq-of-lt h in
+      ap₂ (λ (y z : ℕ). y * size + (z + size / 2) % size) q r
+
+  pub paired : Paired size (pairsOf w size)
+  paired = record {
+    len = len;
+    first = λ k. elim (decLt k (24 * size)) [
+      | yes l ↦ subst (λ (z : ℕ). z < 2) (sym (parts k l .0)) (bit-lt w k)
+      | no l ↦ subst (λ (z : ℕ). z % 64 < 2) (sym (List·getD-eq-default (pairsOf w size) 0 {n = k} (omega (arith, len)))) (omega arith)
+    ];
+    second = λ k. elim (decLt k (24 * size)) [
+      | yes l ↦ subst (λ (z : ℕ). z < 2) (sym (parts k l .1)) (bit-lt w (fellow size k))
+      | no l ↦ subst (λ (z : ℕ). z / 64 < 2) (sym (List·getD-eq-default (pairsOf w size) 0 {n = k} (omega (arith, len)))) (omega arith)
+    ];
+    fellow = λ s x l m.
+        let p : ℕ = s * size + (x + size / 2) % size in
+        let q : (x + size / 2) % size < size = mod-lt (x + size / 2) some in
+        let r : (s + 1) * size ≤ 24 * size = mul-le-mul-right size (omega arith) in
+        parts (s * size + x) (omega arith) .1 ∙ ap (bitAt w) (fellow-in s x m) ∙ sym (parts p (omega arith) .0);
   }

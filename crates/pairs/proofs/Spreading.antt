@@ -16,7 +16,7 @@ use Rattle.ground.proofs.Choice.{both-left, both-right}
 use Rattle.ground.proofs.Table.{at-all}
 use Rattle.ground.proofs.Fill.{fill-more}
 use Rattle.bits.specs.Places.{bitAt}
-use Rattle.interleaver.specs.Inside.{spelt, spread, Stored}
+use Rattle.pairs.specs.Inside.{spelt, spread, Stored}
 
 -- the digits of a sum are sums of digits
 spelt-add : (f g : ℕ → ℕ) (n : ℕ) → spelt f n + 64 * spelt g n ≡ spelt (λ k. f k + 64 * g k) n

@@ -1,13 +1,13 @@
--- `interleaver::unpack::spread` meets its contract. Assumes nothing.
+-- `pairs::spread` meets its contract. Assumes nothing.
 use Prim.Native.Nat.{ℕ, _<_, _≤_}
 use mathlib.Core.Path.{sym, subst}
 use native.Mathlib.Omega.{arith}
-use Rattle.interleaver.proofs.Spreading.{spread-most}
+use Rattle.pairs.proofs.Spreading.{spread-most}
 use borrow.Author.Needs.{needs}
-use Rattle.interleaver.proofs.unpack.spread.Statement.{statement}
-use Rattle.interleaver.proofs.unpack.spread.Tie as tie
-use Rattle.interleaver.proofs.unpack.spread.Reads as reads
-use Rattle.interleaver.proofs.unpack.spread.Lts as lts
+use Rattle.pairs.proofs.spread.Statement.{statement}
+use Rattle.pairs.proofs.spread.Tie as tie
+use Rattle.pairs.proofs.spread.Reads as reads
+use Rattle.pairs.proofs.spread.Lts as lts
 
 mul-result : tie.Need-mul-result
 mul-result c = search needs

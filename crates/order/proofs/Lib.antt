@@ -1,0 +1,4 @@
+pub mod Kept
+pub mod Inverse
+pub mod Once
+pub mod Rows

@@ -1,0 +1,4 @@
+pub mod Spreading
+pub mod Coupling
+pub mod Copying
+pub mod Agree
