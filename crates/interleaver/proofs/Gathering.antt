@@ -22,10 +22,11 @@ use Rattle.order.specs.Order.{parameter, entries5, entries9, entry, reversed, a
 use Rattle.order.specs.Once.{Block}
 use Rattle.order.specs.Rows.{rowAddress, column}
 use Rattle.pairs.specs.Pairs.{Paired}
-use Rattle.interleaver.specs.Inside.{rowPair, halfOf, shortAt, rowValue, rowWidth, readBit}
+use Rattle.rows.specs.Spelt.{rowPair}
+use Rattle.interleaver.specs.Inside.{halfOf, shortAt, rowValue, rowWidth, readBit}
 use Rattle.order.proofs.Kept.{count, count-mono, count9, count5}
 use Rattle.order.proofs.Rows.{row-at, row-whole, row-short}
-use Rattle.interleaver.proofs.Columns.{segment-most, pair-first}
+use Rattle.rows.proofs.Columns.{segment-most, pair-first}
 
 -- ---- the two sizes of block
 pub record Sized (N n h : ℕ) : Type 0 where

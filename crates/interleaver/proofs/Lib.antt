@@ -1,4 +1,3 @@
-pub mod Columns
 pub mod Gathering
 pub mod Sinking
 pub mod Reading

@@ -21,19 +21,11 @@ use Rattle.order.specs.Order.{parameter, entries5, entries9, entry, reversed, a
 use Rattle.order.specs.Once.{Block}
 use Rattle.order.specs.Rows.{rowAddress}
 use Rattle.pairs.specs.Pairs.{Paired}
-use Rattle.interleaver.specs.Inside.{rowPair, Both, halfOf, Listed, Halves, shortAt, rowValue, rowWidth, readBit, Behind, Sunk, Gathered}
+use Rattle.rows.specs.Spelt.{rowPair, rowsOf}
+use Rattle.interleaver.specs.Inside.{halfOf, Listed, Halves, shortAt, rowValue, rowWidth, readBit, Behind, Sunk, Gathered}
 use Rattle.order.proofs.Kept.{count, length-kept}
-use Rattle.interleaver.proofs.Columns.{pair-first}
+use Rattle.rows.proofs.Columns.{pair-first, Both, row-of, rows-are}
 use Rattle.interleaver.proofs.Gathering.{sized, fellow-number, read-bit, read-behind, rows-most, row-count, row-number}
-
--- ---- which block it is
-pub parameter-long : (N : ℕ) → N ≡ 12282 → parameter N ≡ 9
-unfolding parameter
-parameter-long N e = choose-true 9 5 (eq-eqb N 12282 e)
-
-pub parameter-short : (N : ℕ) → (N ≡ 12282 → ⊥) → parameter N ≡ 5
-unfolding parameter
-parameter-short N h = choose-false 9 5 (ne-eqb N 12282 h)
 
 leb-behind : (k a b : ℕ) → leb (k + a) (k + b) ≡ leb a b
 leb-behind k a b =
@@ -54,6 +46,10 @@ short-short N j e =
     (sym (leb-behind 736 26 (j % 32)) ∙ ap (λ (x : ℕ). leb 762 (736 + x % 32)) (sym (mul-one j)))
 
 -- ---- the rows in two lists
+-- what is read of a row
+pub rows-both : (N : ℕ) (d : List ℕ) (j : ℕ) → Paired (2 ^ parameter N) d → j < 512 → Both (parameter N) d j (rowsOf N d j)
+rows-both N d j p l = subst (Both (parameter N) d j) (sym (rows-are N d j l (parameter N) refl (p .len))) (row-of (parameter N) (2 ^ parameter N) d j p)
+
 listed-more : (N : ℕ) (d : List ℕ) (from : ℕ) (rows : List ℕ) (i v : ℕ) → Listed N d from rows i → i < length rows
     → v ≡ number (λ t. rowPair (parameter N) d (from + i + 1) t % 64) 0 24 → Listed N d from (set rows i v) (i + 1)
 listed-more N d from rows i v l room e = record {

@@ -11,44 +11,9 @@ use Rattle.bits.specs.Places.{bitAt, number}
 use Rattle.bits.specs.Held.{placeOf, Held}
 use Rattle.bits.specs.declared.wide.Wide.{Wide}
 use Rattle.pairs.specs.Pairs.{Paired}
+use Rattle.rows.specs.Spelt.{rowPair}
 use Rattle.order.specs.Order.{parameter, reversed, address, kept, order}
 use Rattle.order.specs.Rows.{rowAddress, column}
-
--- ---- rows
--- what reading at a place of a row asks
-pub record Place (d : List ℕ) (size j t e : ℕ) : Type 0 where
-  pub pairs : Paired size d
-  pub some : 0 < size
-  pub most : size ≤ 512
-  pub row : j ≤ 512
-  pub inside : t < 24
-  pub small : e < 512
-
--- the pair at the place t of the row j, by the entry e of table 10
-unfoldable pub pairAt : List ℕ → ℕ → ℕ → ℕ → ℕ → ℕ
-pairAt d size j t e = getD d (reversed (column t) * size + j * e % size) 0
-
--- the pair i of those from the place t on, by their entries
-unfoldable pub sixOf : List ℕ → ℕ → ℕ → ℕ → List ℕ → ℕ → ℕ
-sixOf d size j t es i = pairAt d size j (t + i) (getD es i 0)
-
--- four digits in base 64
-abbrev pub digits : ℕ → ℕ → ℕ → ℕ → ℕ
-digits a b c d = ((a * 64 + b) * 64 + c) * 64 + d
-
--- the low six bits of four numbers, and above 32 bits the six bits over them
-pub record Two (a b c d r : ℕ) : Type 0 where
-  pub first : r % 4294967296 ≡ digits (a % 64) (b % 64) (c % 64) (d % 64)
-  pub second : r / 4294967296 ≡ digits (a / 64) (b / 64) (c / 64) (d / 64)
-
--- the pair at the place t of the row j, for a block whose parameter is n
-unfoldable pub rowPair : ℕ → List ℕ → ℕ → ℕ → ℕ
-rowPair n d j t = getD d (rowAddress n j (column t)) 0
-
--- what the pairs of the row j spell: their first bits, and above 32 bits their second bits
-pub record Both (n : ℕ) (d : List ℕ) (j r : ℕ) : Type 0 where
-  pub first : r % 4294967296 ≡ number (λ t. rowPair n d j t % 64) 0 24
-  pub second : r / 4294967296 ≡ number (λ t. rowPair n d j t / 64) 0 24
 
 -- half the rows of a block of N bits
 unfoldable pub halfOf : ℕ → ℕ

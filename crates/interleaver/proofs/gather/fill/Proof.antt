@@ -1,17 +1,19 @@
 -- `interleaver::gather::fill` meets its contract. Assumes nothing.
-use Prim.Native.Nat.{_-_, _≤_, _<_}
+use Prim.Native.Nat.{_+_, _-_, _≤_, _<_}
 use mathlib.Core.Path.{_≡_, sym, _∙_, subst}
 use native.Mathlib.Omega.{arith}
+use Rattle.order.specs.Order.{parameter}
+use Rattle.rows.proofs.Columns.{Both}
 use Rattle.interleaver.specs.Inside.{halfOf, Halves}
 use Rattle.interleaver.proofs.Gathering.{sized}
-use Rattle.interleaver.proofs.Sinking.{halves-none, halves-more}
+use Rattle.interleaver.proofs.Sinking.{rows-both, halves-none, halves-more}
 use borrow.Author.Needs.{needs}
 use Rattle.interleaver.proofs.gather.fill.Statement.{statement}
 use Rattle.interleaver.proofs.gather.fill.Tie as tie
 use Rattle.interleaver.proofs.gather.fill.Reads as reads
 use Rattle.interleaver.proofs.gather.fill.Lts as lts
 use Rattle.interleaver.proofs.gather.half_of.Reads as half-of-reads
-use Rattle.interleaver.proofs.gather.rows_of.Reads as rows-of-reads
+use Rattle.rows.proofs.rows_of.Reads as rows-of-reads
 
 abbrev Inv-loop : tie.InvT-loop
 Inv-loop n d first₀ second₀ end i₀ first second i = (i ≤ end) × Halves n d first second i
@@ -29,7 +31,7 @@ add-rows-of : tie.Need-add-rows-of Inv-loop μ-loop
 add-rows-of c = omega arith
 
 rows-of-requires : tie.Need-rows-of-requires Inv-loop μ-loop
-rows-of-requires c κs = let b = c .before .before .before .before .before .before in (b .pre .1, omega (arith, c .before .before .half-of .ensures, sized (b .args .n) (b .pre .0) .most))
+rows-of-requires c κs = search needs
 
 cast-first : tie.Need-cast-first Inv-loop μ-loop
 cast-first c = omega arith
@@ -60,7 +62,9 @@ loop-again c =
     let b = c .before .before .before .before .before .before .before in
     let l = c .before .before .loop in
     let h : l .i < halfOf (b .args .n) = omega (arith, c .before .before .before .half-of .ensures) in
-    (omega arith, halves-more (b .args .n) (b .pre .0) (b .args .d .now) (l .first) (l .second) (l .i) (c .rows-of .result) (b .pre .1) h (c .rows-of .ensures) (l .inv .1))
+    let r : Both (parameter (b .args .n)) (b .args .d .now) (l .i + 1) (c .rows-of .result) =
+    subst (Both (parameter (b .args .n)) (b .args .d .now) (l .i + 1)) (sym (c .rows-of .ensures)) (rows-both (b .args .n) (b .args .d .now) (l .i + 1) (b .pre .1) (omega (arith, h, sized (b .args .n) (b .pre .0) .most))) in
+    (omega arith, halves-more (b .args .n) (b .pre .0) (b .args .d .now) (l .first) (l .second) (l .i) (c .rows-of .result) (b .pre .1) h r (l .inv .1))
 
 same-length : tie.Need-same-length Inv-loop μ-loop
 same-length c = c .before .loop .inv .1 .first-length ∙ sym (c .before .before .before .before .before .before .pre .2)

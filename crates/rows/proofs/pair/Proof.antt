@@ -1,13 +1,13 @@
--- `interleaver::gather::pair` meets its contract. Assumes nothing.
+-- `rows::pair` meets its contract. Assumes nothing.
 use native.Mathlib.Omega.{arith}
-use Rattle.interleaver.proofs.Columns.{segment-fits, product-fits, column-fits, place-in, pair-is}
+use Rattle.rows.proofs.Columns.{segment-fits, product-fits, column-fits, place-in, pair-is}
 use borrow.Author.Needs.{needs}
-use Rattle.interleaver.proofs.gather.pair.Statement.{statement}
-use Rattle.interleaver.proofs.gather.pair.Tie as tie
-use Rattle.interleaver.proofs.gather.pair.Reads as reads
-use Rattle.interleaver.proofs.gather.pair.Lts as lts
-use Rattle.interleaver.proofs.gather.reversed.Reads as reversed-reads
-use Rattle.interleaver.proofs.gather.wide.Reads as wide-reads
+use Rattle.rows.proofs.pair.Statement.{statement}
+use Rattle.rows.proofs.pair.Tie as tie
+use Rattle.rows.proofs.pair.Reads as reads
+use Rattle.rows.proofs.pair.Lts as lts
+use Rattle.rows.proofs.reversed.Reads as reversed-reads
+use Rattle.rows.proofs.wide.Reads as wide-reads
 
 add-reversed : tie.Need-add-reversed
 add-reversed c = search needs
@@ -36,7 +36,7 @@ wide-requires c κs = search needs
 returns : tie.Need-returns
 returns c =
     let b = c .before .before .before .before in
-    pair-is (b .args .d .now) (b .args .size) (b .args .j) (b .args .t) (b .args .entry) (c .before .before .reversed .result) (b .pre) (c .before .before .reversed .ensures) (c .wide .result) (c .wide .ensures .0)
+    (pair-is (b .args .d .now) (b .args .size) (b .args .j) (b .args .t) (b .args .entry) (c .before .before .reversed .result) (b .pre) (c .before .before .reversed .ensures) (c .wide .result) (c .wide .ensures .0), c .wide .ensures .1)
 
 pub pair-spec : {M : Type 1} → statement M
 pair-spec =

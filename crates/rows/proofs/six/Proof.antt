@@ -1,18 +1,18 @@
--- `interleaver::gather::six` meets its contract. Assumes nothing.
+-- `rows::six` meets its contract. Assumes nothing.
 use Prim.Native.Nat.{ℕ, _+_}
 use mathlib.Core.Path.{sym, ap, _∙_}
 use mathlib.Core.List.{List, [], _∷_}
 use native.Mathlib.Nat.{add-zero}
 use native.Mathlib.Omega.{arith}
 use denote.Ref.{now}
-use Rattle.interleaver.specs.Inside.{pairAt, sixOf}
-use Rattle.interleaver.proofs.Columns.{place-before, six-is}
+use Rattle.rows.specs.Inside.{pairAt, sixOf}
+use Rattle.rows.proofs.Columns.{place-before, six-is}
 use borrow.Author.Needs.{needs}
-use Rattle.interleaver.proofs.gather.six.Statement.{statement}
-use Rattle.interleaver.proofs.gather.six.Tie as tie
-use Rattle.interleaver.proofs.gather.six.Reads as reads
-use Rattle.interleaver.proofs.gather.six.Lts as lts
-use Rattle.interleaver.proofs.gather.pair.Reads as pair-reads
+use Rattle.rows.proofs.six.Statement.{statement}
+use Rattle.rows.proofs.six.Tie as tie
+use Rattle.rows.proofs.six.Reads as reads
+use Rattle.rows.proofs.six.Lts as lts
+use Rattle.rows.proofs.pair.Reads as pair-reads
 
 pair-requires : tie.Need-pair-requires
 pair-requires c κs = search needs

@@ -1,11 +1,11 @@
--- `interleaver::gather::reversed` meets its contract. Assumes nothing.
+-- `rows::reversed` meets its contract. Assumes nothing.
 use mathlib.Core.Path.{refl}
 use Rattle.order.specs.Order.{reversed}
 use borrow.Author.Needs.{needs}
-use Rattle.interleaver.proofs.gather.reversed.Statement.{statement}
-use Rattle.interleaver.proofs.gather.reversed.Tie as tie
-use Rattle.interleaver.proofs.gather.reversed.Reads as reads
-use Rattle.interleaver.proofs.gather.reversed.Lts as lts
+use Rattle.rows.proofs.reversed.Statement.{statement}
+use Rattle.rows.proofs.reversed.Tie as tie
+use Rattle.rows.proofs.reversed.Reads as reads
+use Rattle.rows.proofs.reversed.Lts as lts
 
 mul-result : tie.Need-mul-result
 mul-result c = search needs
