@@ -3,14 +3,12 @@
 use Prim.Native.Nat.{ℕ}
 use mathlib.Core.Path.{_≡_, refl, sym, ap, _∙_, subst}
 use mathlib.Core.Bool.{not}
-use mathlib.Core.List.{List, [], _∷_}
+use mathlib.Core.List.{List}
 use mathlib.Core.Logic.{_↔_}
-use native.Mathlib.Decide.{ℕ-discrete}
 use lib.Dec.{eqb}
 use lib.ListN.{length}
 use borrow.Author.Tests.{eq-eqb, ne-eqb}
-use Rattle.ground.specs.Outcome.{Told, Is, numberOf}
-use Rattle.ground.proofs.Outcome.{number-is}
+use Rattle.ground.specs.Outcome.{Is}
 use Rattle.ground.specs.Choice.{refuse, firstOf}
 use Rattle.ground.proofs.Choice.{choose-true, choose-false, first-clear}
 use Rattle.bits.specs.Lists.{Below}
@@ -105,32 +103,29 @@ pub record Wanted (sh word : List ℕ) (number : ℕ) (after : List ℕ) : Type 
   pub leaves : (number ≡ 0 → ⊥) → after ≡ word
 
 module _ (sh word : List ℕ) where
-  pub accepted-writing : writeRefusal sh word ≡ 0 → writing sh word ≡ record { answer = record { number = 0; values = 1 ∷ [] }; memory = wordOf (listsStated sh) }
+  -- the number is the refusal
+  pub writing-number : writing sh word .answer ≡ writeRefusal sh word
   unfolding writing
-  accepted-writing z = choose-true _ _ (eq-eqb (writeRefusal sh word) 0 z)
+  writing-number = refl
 
-  refused-writing : (writeRefusal sh word ≡ 0 → ⊥) → writing sh word ≡ record { answer = record { number = writeRefusal sh word; values = [] }; memory = word }
+  pub accepted-writing : writeRefusal sh word ≡ 0 → writing sh word ≡ record { answer = 0; memory = wordOf (listsStated sh) }
+  unfolding writing
+  accepted-writing z = λ i. record { answer = z i; memory = choose-true (wordOf (listsStated sh)) word (eq-eqb (writeRefusal sh word) 0 z) i }
+
+  refused-writing : (writeRefusal sh word ≡ 0 → ⊥) → writing sh word .memory ≡ word
   unfolding writing
   refused-writing h = choose-false _ _ (ne-eqb (writeRefusal sh word) 0 h)
 
-  -- the number is 0 exactly where nothing is refused
-  pub writing-zero : writing sh word .answer .number ≡ 0 → writeRefusal sh word ≡ 0
-  writing-zero e =
-      elim (ℕ-discrete (writeRefusal sh word) 0) [ yes z ↦ z | no h ↦ absurd (h (sym (ap (λ o. o .answer .number) (refused-writing h)) ∙ e)) ]
-
-pub wanted-number : (sh word : List ℕ) (r : ℕ) (after : List ℕ) → Below 256 sh → length word ≡ 96 → Is (numberOf (writing sh word)) r after → Wanted sh word r after
-wanted-number sh word r after bytes n p = record {
-  accepts = (λ e. iff .0 (writing-zero sh word (sym (p .answer) ∙ e)), λ q. zero (iff .1 q));
+pub wanted : (sh word : List ℕ) (r : ℕ) (after : List ℕ) → Below 256 sh → length word ≡ 96 → Is (writing sh word) r after → Wanted sh word r after
+wanted sh word r after bytes n p = record {
+  accepts = (λ e. iff .0 (sym (writing-number sh word) ∙ sym (p .answer) ∙ e), λ q. zero (iff .1 q));
   only = one-stated sh;
   lays = λ d k e. p .memory ∙ ap (λ o. o .memory) (accepted-writing sh word (iff .1 (d, k, e))) ∙ the-word sh d k e;
-  leaves = λ h. p .memory ∙ ap (λ o. o .memory) (refused-writing sh word (λ z. h (zero z)));
+  leaves = λ h. p .memory ∙ refused-writing sh word (λ z. h (zero z));
 }
   where
     iff : (writeRefusal sh word ≡ 0) ↔ ((d : Description) × Keeps d × (sheet d ≡ sh))
     iff = written-iff sh word bytes n
 
     zero : writeRefusal sh word ≡ 0 → r ≡ 0
-    zero z = p .answer ∙ ap (λ o. o .answer .number) (accepted-writing sh word z)
-
-pub wanted : (sh word : List ℕ) (t : Told) (after : List ℕ) → Below 256 sh → length word ≡ 96 → Is (writing sh word) t after → Wanted sh word (t .number) after
-wanted sh word t after bytes n p = wanted-number sh word (t .number) after bytes n (number-is p refl)
+    zero z = p .answer ∙ writing-number sh word ∙ z

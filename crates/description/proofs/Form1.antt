@@ -17,9 +17,10 @@ use Rattle.bits.proofs.Lists.{unpack-length, unpack-append, unpack-pack, unpack
 use Rattle.description.specs.Rows.{Each, width, Row, join, cut, joins, cuts}
 use Rattle.description.specs.Fields.{table15, table16, table16b, table18, table19, stsId, numTapsDiv2}
 use Rattle.description.specs.Description.{Lists}
-use Rattle.description.specs.Sheet.{inSheet, streamsFrom, sectionsFrom, sheetEnd, header, records, sheetOf}
+use Rattle.description.specs.Sheet.{inSheet, form1, streamsFrom, sectionsFrom, sheetEnd, header, records, sheetOf}
 use Rattle.description.specs.Tests.{versionFault, anySet, widthFault, tapFault, idFault}
-use Rattle.description.specs.Form1.{pStated, sStated, dStated, headerFault, bare, sheetSections, sheetLists, listsStated, topFault, countFault, sheetFaults}
+use Rattle.description.specs.Header.{pStated, sStated, dStated, headerFault}
+use Rattle.description.specs.Form1.{bare, sheetSections, sheetLists, listsStated, topFault, countFault, recordFaults, sheetFaults}
 use Rattle.description.proofs.Rows.{join-length, join-below, cut-join, joins-length, joins-below, cuts-joins}
 use Rattle.description.proofs.Deal.{Counted}
 use Rattle.description.proofs.Sound.{Sound}
@@ -92,7 +93,7 @@ behind-length : (l : Lists) → length (records l) ≡ 9 + 6 * length (l .pipes)
 unfolding records
 behind-length l = simp (length-append, pack-length) (omega arith)
 
-pub sheet-length : (l : Lists) → length (sheetOf l) ≡ sheetEnd 12 (length (l .pipes)) (length (l .streams)) (length (l .sections))
+pub sheet-length : (l : Lists) → length (sheetOf l) ≡ sheetEnd form1 (length (l .pipes)) (length (l .streams)) (length (l .sections))
 unfolding sheetOf header
 sheet-length l = omega (arith, behind-length l)
 
@@ -118,7 +119,7 @@ module _ (l : Lists) where
   d1 : drop 96 b ≡ from1 l
   unfolding sheetOf header
   d1 =
-      let h : List ℕ = header p s d in
+      let h : List ℕ = header form1 p s d in
       ap (drop 96) (unpack-append h (records l)) ∙ drop-at (unpack h) (unpack (records l)) 96 (unpack-length h) ∙ unpack-records l
 
   d2 : drop 152 b ≡ from2 l
@@ -129,13 +130,13 @@ module _ (l : Lists) where
   unfolding width
   d3 = past-part b (join table16b (l .tail)) (from3 l) 152 16 168 d2 (join-length table16b (l .tail)) refl
 
-  d4 : drop (8 * streamsFrom 12 p) b ≡ from4 l
+  d4 : drop (8 * streamsFrom form1 p) b ≡ from4 l
   unfolding width
-  d4 = past-part b (joins table16 (l .pipes)) (from4 l) 168 (length (l .pipes) * 48) (8 * streamsFrom 12 p) d3 (joins-length table16 (l .pipes)) (omega arith)
+  d4 = past-part b (joins table16 (l .pipes)) (from4 l) 168 (length (l .pipes) * 48) (8 * streamsFrom form1 p) d3 (joins-length table16 (l .pipes)) (omega arith)
 
-  d5 : drop (8 * sectionsFrom 12 p s) b ≡ from5 l
+  d5 : drop (8 * sectionsFrom form1 p s) b ≡ from5 l
   unfolding width
-  d5 = past-part b (joins table18 (l .streams)) (from5 l) (8 * streamsFrom 12 p) (length (l .streams) * 16) (8 * sectionsFrom 12 p s) d4 (joins-length table18 (l .streams)) (omega arith)
+  d5 = past-part b (joins table18 (l .streams)) (from5 l) (8 * streamsFrom form1 p) (length (l .streams) * 16) (8 * sectionsFrom form1 p s) d4 (joins-length table18 (l .streams)) (omega arith)
 
   -- the header states the counts
   pub p-sheet : pStated (sheetOf l) ≡ length (l .pipes)
@@ -153,18 +154,18 @@ module _ (l : Lists) where
   two-right : (n : ℕ) → not (eqb (n / 256 * 256 + n % 256) n) ≡ false
   two-right n = ap not (eq-eqb (n / 256 * 256 + n % 256) n (div-add-mod' n 256))
 
-  pub header-sheet : headerFault (sheetOf l) ≡ false
+  pub header-sheet : headerFault form1 (sheetOf l) ≡ false
   unfolding headerFault sheetOf header
   header-sheet =
       skip (le-ltb (length (sheetOf l)) 21 (omega (arith, sheet-length l)))
       (skip refl
       (skip refl
-      (skip (two-right (streamsFrom 12 p))
-      (skip (two-right (sectionsFrom 12 p s))
-      (skip (two-right (sheetEnd 12 p s d)) (ap not (eq-eqb (length (sheetOf l)) (sheetEnd 12 p s d) (sheet-length l))))))))
+      (skip (two-right (streamsFrom form1 p))
+      (skip (two-right (sectionsFrom form1 p s))
+      (skip (two-right (sheetEnd form1 p s d)) (ap not (eq-eqb (length (sheetOf l)) (sheetEnd form1 p s d) (sheet-length l))))))))
 
   module _ (sound : Sound l) where
-    sections-sheet : sheetSections p s d b ≡ inSheet (l .sections)
+    sections-sheet : sheetSections form1 p s d b ≡ inSheet (l .sections)
     unfolding sheetSections
     sections-sheet =
         let rs : List (List ℕ) = inSheet (l .sections) in
@@ -184,7 +185,7 @@ module _ (l : Lists) where
 
     -- and the sheet of lists that are as long as their records say, in which the tests find nothing, is accepted
     pub accepted-sheet : Counted l → Clean l → firstOf (sheetFaults (sheetOf l)) ≡ 0
-    unfolding sheetFaults topFault countFault sheetOf header
+    unfolding sheetFaults recordFaults topFault countFault listsStated sheetOf header
     accepted-sheet c k =
         let top = ap (λ (rs : List (List ℕ)). anySet (map (λ r. getD r 0 0) rs)) sections-sheet ∙ ap anySet (tops-zero (l .sections)) ∙ set-none d in
         let version = ap (λ (x : Lists). versionFault (x .multiplex)) lists-sheet ∙ k .version in

@@ -8,7 +8,6 @@ pub mod Keeps
 pub mod Sealed
 pub mod Demand
 pub mod Bounds
-pub mod Places
 pub mod Form1
 pub mod Restated
 pub mod DemandWrite

@@ -19,9 +19,10 @@ use Rattle.bits.proofs.Lists.{unpack-length, unpack-below, unpack-drop, unpack-
 use Rattle.description.specs.Rows.{Each, width, Row, join, joins, cuts}
 use Rattle.description.specs.Fields.{table15, table16, table16b, table18, table19, numPipes1}
 use Rattle.description.specs.Description.{Lists, streamCount}
-use Rattle.description.specs.Sheet.{inSheet, pipesFrom, streamsFrom, sectionsFrom, sheetEnd, header, records, sheetOf}
+use Rattle.description.specs.Sheet.{inSheet, form1, pipesFrom, streamsFrom, sectionsFrom, sheetEnd, header, records, sheetOf}
 use Rattle.description.specs.Tests.{listsFault}
-use Rattle.description.specs.Form1.{pStated, sStated, dStated, twoAt, headerFault, sheetSections, sheetLists, listsStated, topFault, countFault, sheetFaults}
+use Rattle.description.specs.Header.{pStated, sStated, dStated, twoAt, headerFault}
+use Rattle.description.specs.Form1.{sheetSections, sheetLists, listsStated, topFault, countFault, recordFaults, sheetFaults}
 use Rattle.description.proofs.Rows.{join-below, cut-row, join-cut, joins-below, joins-cuts, cuts-length, cuts-rows}
 use Rattle.description.proofs.Deal.{Counted}
 use Rattle.description.proofs.Sound.{Sound}
@@ -32,21 +33,21 @@ use Rattle.description.proofs.Form1.{rows-bare, in-bare, bare-length, f
 pub record RightHeader (sh : List ℕ) : Type 0 where
   pub long : 21 ≤ length sh
   pub fourth : getD sh 3 0 ≡ 0
-  pub pipes : twoAt sh 4 ≡ pipesFrom 12
-  pub streams : twoAt sh 6 ≡ streamsFrom 12 (pStated sh)
-  pub sections : twoAt sh 8 ≡ sectionsFrom 12 (pStated sh) (sStated sh)
-  pub end : twoAt sh 10 ≡ sheetEnd 12 (pStated sh) (sStated sh) (dStated sh)
-  pub whole : length sh ≡ sheetEnd 12 (pStated sh) (sStated sh) (dStated sh)
+  pub pipes : twoAt sh 4 ≡ pipesFrom form1
+  pub streams : twoAt sh 6 ≡ streamsFrom form1 (pStated sh)
+  pub sections : twoAt sh 8 ≡ sectionsFrom form1 (pStated sh) (sStated sh)
+  pub end : twoAt sh 10 ≡ sheetEnd form1 (pStated sh) (sStated sh) (dStated sh)
+  pub whole : length sh ≡ sheetEnd form1 (pStated sh) (sStated sh) (dStated sh)
 
-pub right-header : (sh : List ℕ) → headerFault sh ≡ false → RightHeader sh
+pub right-header : (sh : List ℕ) → headerFault form1 sh ≡ false → RightHeader sh
 unfolding headerFault
 right-header sh e =
     let a1 = either-false (ltb (length sh) 21) _ e in
     let a2 = either-false (not (eqb (getD sh 3 0) 0)) _ (a1 .1) in
-    let a3 = either-false (not (eqb (twoAt sh 4) (pipesFrom 12))) _ (a2 .1) in
-    let a4 = either-false (not (eqb (twoAt sh 6) (streamsFrom 12 (pStated sh)))) _ (a3 .1) in
-    let a5 = either-false (not (eqb (twoAt sh 8) (sectionsFrom 12 (pStated sh) (sStated sh)))) _ (a4 .1) in
-    let a6 = either-false (not (eqb (twoAt sh 10) (sheetEnd 12 (pStated sh) (sStated sh) (dStated sh)))) _ (a5 .1) in
+    let a3 = either-false (not (eqb (twoAt sh 4) (pipesFrom form1))) _ (a2 .1) in
+    let a4 = either-false (not (eqb (twoAt sh 6) (streamsFrom form1 (pStated sh)))) _ (a3 .1) in
+    let a5 = either-false (not (eqb (twoAt sh 8) (sectionsFrom form1 (pStated sh) (sStated sh)))) _ (a4 .1) in
+    let a6 = either-false (not (eqb (twoAt sh 10) (sheetEnd form1 (pStated sh) (sStated sh) (dStated sh)))) _ (a5 .1) in
     record {
       long = ltb-false (length sh) 21 (a1 .0);
       fourth = no-difference _ _ (a2 .0);
@@ -60,7 +61,7 @@ right-header sh e =
 two-parts : (x y n : ℕ) → y < 256 → x * 256 + y ≡ n → (x ≡ n / 256) × (y ≡ n % 256)
 two-parts x y n h e = (omega arith, omega arith)
 
-header-back : (sh : List ℕ) → Below 256 sh → RightHeader sh → take 12 sh ≡ header (pStated sh) (sStated sh) (dStated sh)
+header-back : (sh : List ℕ) → Below 256 sh → RightHeader sh → take 12 sh ≡ header form1 (pStated sh) (sStated sh) (dStated sh)
 unfolding header tab
 header-back sh bytes h =
     let byte : (i : ℕ) → getD sh i 0 < 256 = λ i. below-get 256 sh i (omega arith) bytes in
@@ -108,10 +109,10 @@ module _ (sh : List ℕ) where
 
   -- the sections' rows, with the four bits above them
   abbrev rows : List (List ℕ)
-  rows = cuts (4 ∷ table19) d (at (8 * sectionsFrom 12 p s))
+  rows = cuts (4 ∷ table19) d (at (8 * sectionsFrom form1 p s))
 
   rows-fit : Each (Row (4 ∷ table19)) rows
-  rows-fit = cuts-rows (4 ∷ table19) d (at (8 * sectionsFrom 12 p s)) (from (8 * sectionsFrom 12 p s))
+  rows-fit = cuts-rows (4 ∷ table19) d (at (8 * sectionsFrom form1 p s)) (from (8 * sectionsFrom form1 p s))
 
   pub sound-stated : Sound (listsStated sh)
   unfolding listsStated sheetLists sheetSections
@@ -119,7 +120,7 @@ module _ (sh : List ℕ) where
     multiplex = cut-row table15 (at 96) (from 96);
     pipes = cuts-rows table16 p (at 168) (from 168);
     tail = cut-row table16b (at 152) (from 152);
-    streams = cuts-rows table18 s (at (8 * streamsFrom 12 p)) (from (8 * streamsFrom 12 p));
+    streams = cuts-rows table18 s (at (8 * streamsFrom form1 p)) (from (8 * streamsFrom form1 p));
     sections = rows-bare table19 rows rows-fit;
   }
 
@@ -130,11 +131,11 @@ module _ (sh : List ℕ) where
 
   streams-long : length (listsStated sh .streams) ≡ s
   unfolding listsStated sheetLists
-  streams-long = cuts-length table18 s (at (8 * streamsFrom 12 p))
+  streams-long = cuts-length table18 s (at (8 * streamsFrom form1 p))
 
   sections-long : length (listsStated sh .sections) ≡ d
   unfolding listsStated sheetLists sheetSections
-  sections-long = bare-length rows ∙ cuts-length (4 ∷ table19) d (at (8 * sectionsFrom 12 p s))
+  sections-long = bare-length rows ∙ cuts-length (4 ∷ table19) d (at (8 * sectionsFrom form1 p s))
 
   counts-stated : {A : Type 0} (f : ℕ → ℕ → ℕ → A)
       → f (length (listsStated sh .pipes)) (length (listsStated sh .streams)) (length (listsStated sh .sections)) ≡ f p s d
@@ -142,11 +143,11 @@ module _ (sh : List ℕ) where
 
   module _ (h : firstOf (sheetFaults sh) ≡ 0) where
     right : RightHeader sh
-    unfolding sheetFaults
+    unfolding sheetFaults recordFaults
     right = right-header sh (all-clear (sheetFaults sh) tt h .0)
 
     pub counted-stated : Counted (listsStated sh)
-    unfolding sheetFaults countFault
+    unfolding sheetFaults recordFaults countFault listsStated
     counted-stated =
         let l : Lists = listsStated sh in
         let e = all-clear (sheetFaults sh) tt h .1 .1 .1 .0 in
@@ -159,7 +160,7 @@ module _ (sh : List ℕ) where
         }
 
     pub clean-stated : Clean (listsStated sh)
-    unfolding sheetFaults
+    unfolding sheetFaults recordFaults listsStated
     clean-stated =
         let a = all-clear (sheetFaults sh) tt h in
         let c = a .1 .1 .1 .1 in
@@ -172,27 +173,27 @@ module _ (sh : List ℕ) where
         }
 
     -- what is read of each part is written as it stands
-    long : length b ≡ 8 * sheetEnd 12 p s d
+    long : length b ≡ 8 * sheetEnd form1 p s d
     long = unpack-length sh ∙ ap (λ (k : ℕ). 8 * k) (right .whole)
 
-    e5 : from5 (listsStated sh) ≡ at (8 * sectionsFrom 12 p s)
-    unfolding listsStated sheetLists sheetSections sheetFaults topFault width
+    e5 : from5 (listsStated sh) ≡ at (8 * sectionsFrom form1 p s)
+    unfolding listsStated sheetLists sheetSections sheetFaults recordFaults topFault width
     e5 =
-        let n : length (at (8 * sectionsFrom 12 p s)) ≡ d * 16 = length-drop (8 * sectionsFrom 12 p s) b ∙ omega (arith, long) in
+        let n : length (at (8 * sectionsFrom form1 p s)) ≡ d * 16 = length-drop (8 * sectionsFrom form1 p s) b ∙ omega (arith, long) in
         ap (joins (4 ∷ table19)) (in-bare table19 rows rows-fit (all-clear (sheetFaults sh) tt h .1 .0))
-        ∙ joins-cuts (4 ∷ table19) d (at (8 * sectionsFrom 12 p s)) (from (8 * sectionsFrom 12 p s)) (omega arith)
-        ∙ take-all (d * 16) (at (8 * sectionsFrom 12 p s)) (omega arith)
+        ∙ joins-cuts (4 ∷ table19) d (at (8 * sectionsFrom form1 p s)) (from (8 * sectionsFrom form1 p s)) (omega arith)
+        ∙ take-all (d * 16) (at (8 * sectionsFrom form1 p s)) (omega arith)
 
-    e4 : from4 (listsStated sh) ≡ at (8 * streamsFrom 12 p)
+    e4 : from4 (listsStated sh) ≡ at (8 * streamsFrom form1 p)
     unfolding listsStated sheetLists width
     e4 =
-        part-at b (joins table18 (listsStated sh .streams)) (from5 (listsStated sh)) (8 * streamsFrom 12 p) (s * 16) (8 * sectionsFrom 12 p s)
-        (joins-cuts table18 s (at (8 * streamsFrom 12 p)) (from (8 * streamsFrom 12 p)) (rw length-drop (omega (arith, long)))) e5 (omega arith)
+        part-at b (joins table18 (listsStated sh .streams)) (from5 (listsStated sh)) (8 * streamsFrom form1 p) (s * 16) (8 * sectionsFrom form1 p s)
+        (joins-cuts table18 s (at (8 * streamsFrom form1 p)) (from (8 * streamsFrom form1 p)) (rw length-drop (omega (arith, long)))) e5 (omega arith)
 
     e3 : from3 (listsStated sh) ≡ at 168
     unfolding listsStated sheetLists width
     e3 =
-        part-at b (joins table16 (listsStated sh .pipes)) (from4 (listsStated sh)) 168 (p * 48) (8 * streamsFrom 12 p)
+        part-at b (joins table16 (listsStated sh .pipes)) (from4 (listsStated sh)) 168 (p * 48) (8 * streamsFrom form1 p)
         (joins-cuts table16 p (at 168) (from 168) (rw length-drop (omega (arith, long)))) e4 (omega arith)
 
     e2 : from2 (listsStated sh) ≡ at 152
@@ -213,4 +214,4 @@ module _ (sh : List ℕ) where
         let l : Lists = listsStated sh in
         let r : records l ≡ drop 12 sh =
         unpack-inj (records l) (drop 12 sh) (records-below l) (below-drop 256 12 sh bytes) (unpack-records l ∙ e1 ∙ unpack-drop 12 sh (omega (arith, right .long))) in
-        ap₂ (λ (x y : List ℕ). x ++ y) (counts-stated header ∙ sym (header-back sh bytes right)) r ∙ take-append-drop 12 sh
+        ap₂ (λ (x y : List ℕ). x ++ y) (counts-stated (header form1) ∙ sym (header-back sh bytes right)) r ∙ take-append-drop 12 sh

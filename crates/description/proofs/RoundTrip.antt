@@ -3,13 +3,13 @@
 use Prim.Native.Nat.{ℕ, _≤_}
 use mathlib.Core.Path.{_≡_, refl, sym, ap, _∙_}
 use mathlib.Core.Bool.{not}
-use mathlib.Core.List.{List, [], _∷_}
+use mathlib.Core.List.{List}
 use native.Mathlib.Nat.{div-add-mod'}
 use native.Mathlib.Omega.{arith}
 use lib.Dec.{eqb}
 use lib.ListN.{length, take, drop}
 use lib.Seq.{take-at}
-use Rattle.ground.specs.Outcome.{Outcome, Told, Is, numberOf}
+use Rattle.ground.specs.Outcome.{Outcome, Is, numberOf}
 use Rattle.ground.specs.Choice.{refuse, firstOf}
 use Rattle.ground.proofs.Choice.{first-past}
 use Rattle.bits.specs.Lists.{Below, unpack}
@@ -17,26 +17,27 @@ use Rattle.bits.proofs.Lists.{pack-length}
 use Rattle.description.specs.Description.{Description, listsOf}
 use Rattle.description.specs.Rules.{Keeps}
 use Rattle.description.specs.Layout.{wordOf, layout}
-use Rattle.description.specs.Sheet.{sheetEnd, header, sheetOf, sheet}
+use Rattle.description.specs.Sheet.{form1, sheetEnd, header, sheetOf, sheet}
 use Rattle.description.specs.Word.{wordFaults, front, reading}
-use Rattle.description.specs.Form1.{twoAt, sheetFaults, writeRefusal, writing}
+use Rattle.description.specs.Header.{twoAt}
+use Rattle.description.specs.Form1.{sheetFaults, writeRefusal, writing}
 use Rattle.description.proofs.Demand.{described, keeps-described, layout-described, accepted-layout, the-sheet, only-one, lengths-right, lengths-known, accepted-outcome, number-zero}
 use Rattle.description.proofs.Form1.{sheet-length}
-use Rattle.description.proofs.DemandWrite.{stated, keeps-stated, sheet-of-stated, clear-sheet, word-of-sheet, the-word, length-right, accepted-writing, writing-zero}
+use Rattle.description.proofs.DemandWrite.{stated, keeps-stated, sheet-of-stated, clear-sheet, word-of-sheet, the-word, length-right, accepted-writing, writing-number}
 
 -- the sheet at the front of a room: as many bytes as its header says
 abbrev pub sheetIn : List ℕ → List ℕ
 sheetIn room = take (twoAt room 10) room
 
 -- what the writer gives for an accepted sheet
-abbrev pub wrote : List ℕ → Outcome Told (List ℕ)
-wrote w = record { answer = record { number = 0; values = 1 ∷ [] }; memory = w }
+abbrev pub wrote : List ℕ → Outcome ℕ (List ℕ)
+wrote w = record { answer = 0; memory = w }
 
 sheet-in : (d : Description) (out : List ℕ) → sheetIn (front (sheet d) out) ≡ sheet d
 unfolding sheet sheetOf header
 sheet-in d out =
     let l = listsOf d in
-    let n : ℕ = sheetEnd 12 (length (l .pipes)) (length (l .streams)) (length (l .sections)) in
+    let n : ℕ = sheetEnd form1 (length (l .pipes)) (length (l .streams)) (length (l .sections)) in
     let room : List ℕ = front (sheet d) out in
     ap (λ (k : ℕ). take k room) (div-add-mod' n 256) ∙ take-at (sheet d) (drop (length (sheet d)) out) n (sheet-length l)
 
@@ -69,15 +70,15 @@ module _ (w out : List ℕ) (bytes : Below 256 w) (z : reading w out .answer .nu
       let m : reading w out .memory ≡ front (sheet d) out = ap (λ (x : List ℕ). reading x out .memory) (sym laid) ∙ layout-read d kept out (known .1) .1 in
       ap (λ (x : List ℕ). writing (sheetIn x) word) m ∙ ap (λ (x : List ℕ). writing x word) (sheet-in d out) ∙ sheet-written d kept word n ∙ ap wrote laid
 
-module _ (sh word : List ℕ) (bytes : Below 256 sh) (z : writing sh word .answer .number ≡ 0) where
+module _ (sh word : List ℕ) (bytes : Below 256 sh) (z : writing sh word .answer ≡ 0) where
   clear : firstOf (sheetFaults sh) ≡ 0
   unfolding writeRefusal
-  clear = first-past (refuse 1 (not (eqb (length word) 96))) (sheetFaults sh) (omega arith) (writing-zero sh word z) .1
+  clear = first-past (refuse 1 (not (eqb (length word) 96))) (sheetFaults sh) (omega arith) (sym (writing-number sh word) ∙ z) .1
 
   pub word-written : (writing sh word .memory ≡ layout (stated sh)) × Keeps (stated sh) × (sheet (stated sh) ≡ sh)
   word-written =
       let e : sheet (stated sh) ≡ sh = sheet-of-stated sh clear bytes in
-      (ap (λ o. o .memory) (accepted-writing sh word (writing-zero sh word z)) ∙ the-word sh (stated sh) (keeps-stated sh clear) e, keeps-stated sh clear, e)
+      (ap (λ o. o .memory) (accepted-writing sh word (sym (writing-number sh word) ∙ z)) ∙ the-word sh (stated sh) (keeps-stated sh clear) e, keeps-stated sh clear, e)
 
   -- read after write: the sheet is back, at the front of the room
   pub read-after-write : (out : List ℕ) → 128 ≤ length out
@@ -89,7 +90,7 @@ module _ (sh word : List ℕ) (bytes : Below 256 sh) (z : writing sh word .answe
       )
 
 -- two accepted sheets with one word are one sheet
-pub one-sheet : (sh sh' word word' : List ℕ) → Below 256 sh → Below 256 sh' → writing sh word .answer .number ≡ 0 → writing sh' word' .answer .number ≡ 0
+pub one-sheet : (sh sh' word word' : List ℕ) → Below 256 sh → Below 256 sh' → writing sh word .answer ≡ 0 → writing sh' word' .answer ≡ 0
     → writing sh word .memory ≡ writing sh' word' .memory → sh ≡ sh'
 one-sheet sh sh' word word' b b' z z' e =
     let a = word-written sh word b z in
@@ -97,21 +98,21 @@ one-sheet sh sh' word word' b b' z z' e =
     sym (a .2) ∙ ap sheet (only-one (layout (stated sh)) (stated sh) (stated sh') (a .1) (a' .1) refl (sym (a' .0) ∙ sym e ∙ a .0)) ∙ a' .2
 
 -- ---- the same of any numbers and memory that these outcomes allow
-pub word-back : (w out room sh word after : List ℕ) (n m : ℕ) → Is (numberOf (reading w out)) n room → Is (numberOf (writing sh word)) m after
+pub word-back : (w out room sh word after : List ℕ) (n m : ℕ) → Is (numberOf (reading w out)) n room → Is (writing sh word) m after
     → Below 256 w → length word ≡ 96 → n ≡ 0 → sh ≡ sheetIn room → (m ≡ 0) × (after ≡ w)
 word-back w out room sh word after n m p q bytes k z e =
     let f : writing sh word ≡ wrote w =
     ap (λ (x : List ℕ). writing x word) (e ∙ ap sheetIn (p .memory)) ∙ write-after-read w out bytes (sym (p .answer) ∙ z) word k in
-    (q .answer ∙ ap (λ o. o .answer .number) f, q .memory ∙ ap (λ o. o .memory) f)
+    (q .answer ∙ ap (λ o. o .answer) f, q .memory ∙ ap (λ o. o .memory) f)
 
-pub sheet-back : (sh word after w out room : List ℕ) (n m : ℕ) → Is (numberOf (writing sh word)) n after → Is (numberOf (reading w out)) m room
+pub sheet-back : (sh word after w out room : List ℕ) (n m : ℕ) → Is (writing sh word) n after → Is (numberOf (reading w out)) m room
     → Below 256 sh → 128 ≤ length out → n ≡ 0 → w ≡ after → (m ≡ 0) × (room ≡ front sh out)
 sheet-back sh word after w out room n m p q bytes k z e =
     let f : w ≡ writing sh word .memory = e ∙ p .memory in
     let r = read-after-write sh word bytes (sym (p .answer) ∙ z) out k in
     (q .answer ∙ ap (λ (x : List ℕ). reading x out .answer .number) f ∙ r .0, q .memory ∙ ap (λ (x : List ℕ). reading x out .memory) f ∙ r .1)
 
-pub same-sheet : (sh sh' word word' after after' : List ℕ) (n n' : ℕ) → Is (numberOf (writing sh word)) n after → Is (numberOf (writing sh' word')) n' after'
+pub same-sheet : (sh sh' word word' after after' : List ℕ) (n n' : ℕ) → Is (writing sh word) n after → Is (writing sh' word') n' after'
     → Below 256 sh → Below 256 sh' → n ≡ 0 → n' ≡ 0 → after ≡ after' → sh ≡ sh'
 same-sheet sh sh' word word' after after' n n' p q b b' z z' e =
     one-sheet sh sh' word word' b b' (sym (p .answer) ∙ z) (sym (q .answer) ∙ z') (sym (p .memory) ∙ e ∙ q .memory)

@@ -6,4 +6,5 @@ pub mod Layout
 pub mod Sheet
 pub mod Tests
 pub mod Word
+pub mod Header
 pub mod Form1

@@ -17,8 +17,15 @@ abbrev pub inSheet : List (List ℕ) → List (List ℕ)
 inSheet [] = []
 inSheet (r ∷ rs) = (0 ∷ r) ∷ inSheet rs
 
--- where the tables begin, behind a header of h bytes, 7 bytes of multiplex and 2 of tail; the last is the whole length. With h = 12 these are 01's
--- 21, 21 + 6p, 21 + 6p + 2s and 21 + 6p + 2s + 2d
+-- the header of form 1, the form of document 01, has 12 bytes
+abbrev pub form1 : ℕ
+form1 = 12
+
+-- where the tail and the tables begin, behind a header of h bytes, 7 bytes of multiplex and 2 of tail; the last is the whole length. In form 1 the tables
+-- and the end are 01's 21, 21 + 6p, 21 + 6p + 2s and 21 + 6p + 2s + 2d
+abbrev pub tailFrom : ℕ → ℕ
+tailFrom h = h + 7
+
 abbrev pub pipesFrom : ℕ → ℕ
 pipesFrom h = h + 9
 
@@ -31,11 +38,11 @@ sectionsFrom h p s = h + 9 + 6 * p + 2 * s
 abbrev pub sheetEnd : ℕ → ℕ → ℕ → ℕ → ℕ
 sheetEnd h p s d = h + 9 + 6 * p + 2 * s + 2 * d
 
--- the header, 12 bytes (form 1; 02 brings a second): the counts, a zero byte, the offsets of the tables, the whole length
-unfoldable pub header : ℕ → ℕ → ℕ → List ℕ
-header p s d =
+-- a header of h bytes: the counts, a zero byte, the offsets of the tables, the whole length
+unfoldable pub header : ℕ → ℕ → ℕ → ℕ → List ℕ
+header h p s d =
     p ∷ s ∷ d ∷ 0 ∷
-    (two (pipesFrom 12) ++ (two (streamsFrom 12 p) ++ (two (sectionsFrom 12 p s) ++ two (sheetEnd 12 p s d))))
+    (two (pipesFrom h) ++ (two (streamsFrom h p) ++ (two (sectionsFrom h p s) ++ two (sheetEnd h p s d))))
 
 -- what stands behind a header
 unfoldable pub records : Lists → List ℕ
@@ -47,7 +54,7 @@ records l =
     pack (2 * length (l .sections)) (joins (4 ∷ table19) (inSheet (l .sections))))))
 
 unfoldable pub sheetOf : Lists → List ℕ
-sheetOf l = header (length (l .pipes)) (length (l .streams)) (length (l .sections)) ++ records l
+sheetOf l = header form1 (length (l .pipes)) (length (l .streams)) (length (l .sections)) ++ records l
 
 -- the sheet of a description
 unfoldable pub sheet : Description → List ℕ

@@ -2,14 +2,14 @@
 -- Assumes nothing.
 use Prim.Native.Nat.{ℕ, _+_, _*_, _%_}
 use mathlib.Core.Bool.{Bool, false, not}
-use mathlib.Core.List.{List, [], _∷_}
+use mathlib.Core.List.{List, [], _∷_, map}
 use lib.Dec.{eqb, ltb}
 use lib.ListN.{take, drop}
-use Rattle.ground.specs.Choice.{both, either, any}
+use Rattle.ground.specs.Choice.{both, either, any, Fault, refuse}
 use Rattle.patterns.specs.Rates.{unitsOf}
 use Rattle.description.specs.Rows.{total}
-use Rattle.description.specs.Fields.{sigPipeVer, punctPat, pipeWidth}
-use Rattle.description.specs.Description.{ownSections}
+use Rattle.description.specs.Fields.{sigPipeVer, punctPat, pipeWidth, stsId, numTapsDiv2}
+use Rattle.description.specs.Description.{Lists, ownSections}
 use Rattle.description.specs.Rules.{size}
 
 -- 6: Sig_Pipe_Ver is not 0
@@ -53,3 +53,10 @@ member x l = any (eqb x) l
 unfoldable pub idFault : List ℕ → Bool
 idFault [] = false
 idFault (x ∷ l) = either (member x l) (idFault l)
+
+-- the tests of lists that words and sheets have in common, in their order
+abbrev pub listFaults : Lists → List Fault
+listFaults l =
+    refuse 9 (widthFault (l .pipes)) ∷
+    refuse 10 (tapFault (l .pipes) (map numTapsDiv2 (l .sections))) ∷
+    refuse 11 (idFault (map stsId (l .streams))) ∷ []

@@ -2,7 +2,7 @@
 -- Assumes nothing.
 use Prim.Native.Nat.{ℕ, _+_, _*_}
 use mathlib.Core.Bool.{Bool, not}
-use mathlib.Core.List.{List, [], _∷_, _++_, map}
+use mathlib.Core.List.{List, [], _∷_, _++_}
 use lib.Dec.{eqb, ltb}
 use lib.ListN.{length, take, drop}
 use Rattle.ground.specs.Outcome.{Outcome, Told}
@@ -10,11 +10,11 @@ use Rattle.ground.specs.Choice.{choose, either, Fault, refuse, firstOf, verdict
 use Rattle.bits.specs.Lists.{num, unpack}
 use Rattle.crc.specs.Crc.{crc12}
 use Rattle.description.specs.Rows.{cut, cuts}
-use Rattle.description.specs.Fields.{table15, table16, table16b, table18, table19, numPipes1, stsId, numTapsDiv2}
+use Rattle.description.specs.Fields.{table15, table16, table16b, table18, table19, numPipes1}
 use Rattle.description.specs.Description.{Lists, streamCount, sectionCount}
 use Rattle.description.specs.Rules.{size}
 use Rattle.description.specs.Sheet.{sheetOf}
-use Rattle.description.specs.Tests.{versionFault, listsFault, anySet, widthFault, tapFault, idFault}
+use Rattle.description.specs.Tests.{versionFault, listsFault, anySet, listFaults}
 
 -- ---- the lists in the 768 bits b of a word (table 14), by their places
 
@@ -67,9 +67,7 @@ wordFaults b =
     refuse 6 (versionFault (multiplexIn b)) ∷
     refuse 7 (listsFault (pIn b) (sIn b) (dIn b)) ∷
     refuse 8 (paddingFault b) ∷
-    refuse 9 (widthFault (pipesIn b)) ∷
-    refuse 10 (tapFault (pipesIn b) (map numTapsDiv2 (sectionsIn b))) ∷
-    refuse 11 (idFault (map stsId (streamsIn b))) ∷ []
+    listFaults (listsIn b)
 
 -- 1: the word is not 96 bytes, or the room is below 128
 unfoldable pub readRefusal : List ℕ → List ℕ → ℕ

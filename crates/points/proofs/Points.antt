@@ -14,8 +14,9 @@ use Rattle.description.specs.Description.{ownStreams, ownSections, tailOwns, re
 use Rattle.description.specs.Layout.{body, padded, sealed}
 use Rattle.description.specs.Sheet.{header, records, sheetOf, sheet}
 use Rattle.description.specs.Tests.{versionFault, listsFault, anySet, widthWrong, widthFault, tapsWrong, tapFault, member, idFault}
-use Rattle.description.specs.Word.{multiplexIn, pIn, pipesIn, tailIn, sIn, dIn, streamsIn, sectionsIn, spareFault, crcFault, paddingFault, wordFaults}
-use Rattle.description.specs.Form1.{headerFault, sheetSections, sheetLists, listsStated, topFault, countFault, sheetFaults}
+use Rattle.description.specs.Word.{multiplexIn, pIn, pipesIn, tailIn, sIn, dIn, streamsIn, sectionsIn, listsIn, spareFault, crcFault, paddingFault, wordFaults}
+use Rattle.description.specs.Header.{headerFault}
+use Rattle.description.specs.Form1.{sheetSections, sheetLists, listsStated, topFault, countFault, recordFaults, sheetFaults}
 use Rattle.order.specs.Order.{parameter, entries5, entries9, entry, reversed, address, kept}
 use Rattle.constituent.specs.Constituent.{y0, y1, next, state, feed, clocked}
 use Rattle.constituent.specs.Symbols.{tailSymbols1}
@@ -33,8 +34,8 @@ unfolding points
     body padded sealed
     header records sheetOf sheet
     versionFault listsFault anySet widthWrong widthFault tapsWrong tapFault member idFault
-    multiplexIn pIn pipesIn tailIn sIn dIn streamsIn sectionsIn spareFault crcFault paddingFault wordFaults
-    headerFault sheetSections sheetLists listsStated topFault countFault sheetFaults
+    multiplexIn pIn pipesIn tailIn sIn dIn streamsIn sectionsIn listsIn spareFault crcFault paddingFault wordFaults
+    headerFault sheetSections sheetLists listsStated topFault countFault recordFaults sheetFaults
     parameter entries5 entries9 entry reversed address kept
     y0 y1 next state feed clocked tailSymbols1
 points-hold = (refl, refl)
