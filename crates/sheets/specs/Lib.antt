@@ -1,0 +1,5 @@
+pub mod Rows
+pub mod View
+pub mod Records
+pub mod Owned
+pub mod Answers
