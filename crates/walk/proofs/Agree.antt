@@ -6,11 +6,11 @@ use borrow.Fn.World.{ArgsD, ResD}
 use borrow.Fn.Kinds.{endedOf}
 use denote.Triple.Clauses.{AtExit}
 use Rattle.ground.proofs.Outcome.{same}
-use Rattle.walk.proofs.word_bits as word-bits
-use Rattle.walk.proofs.word_bits.Kinds as word-bits-kinds
-use Rattle.walk.proofs.word_bits.Reads as word-bits-reads
+use Rattle.walk.proofs.tour as tour
+use Rattle.walk.proofs.tour.Kinds as tour-kinds
+use Rattle.walk.proofs.tour.Reads as tour-reads
 
-module _ (κs : Lfts 1) (a : ArgsD word-bits.signature κs) where
-  pub word-bits-agrees : (r r′ : ResD word-bits.signature κs) (s s′ : AtExit (endedOf 1 word-bits-kinds.ps word-bits-kinds.r) κs) →
-      word-bits-reads.Post κs a r s → word-bits-reads.Post κs a r′ s′ → r ≡ r′
-  word-bits-agrees r r′ s s′ p q = same p q
+module _ (κs : Lfts 1) (a : ArgsD tour.signature κs) where
+  pub tour-agrees : (r r′ : ResD tour.signature κs) (s s′ : AtExit (endedOf 1 tour-kinds.ps tour-kinds.r) κs) →
+      tour-reads.Post κs a r s → tour-reads.Post κs a r′ s′ → r ≡ r′
+  tour-agrees r r′ s s′ p q = same p q

@@ -1,0 +1,20 @@
+use native.Mathlib.Omega.{arith}
+use Rattle.sheets.proofs.Fields.{read-lt}
+use borrow.Author.Needs.{needs}
+use Rattle.walk.proofs.plain.pipes_at.Statement.{statement}
+use Rattle.walk.proofs.plain.pipes_at.Tie as tie
+
+-- src/plain.rt:21:5
+field-requires : tie.Need-field-requires
+field-requires c κs = search needs
+
+-- src/plain.rt:21:5
+cast-result : tie.Need-cast-result
+cast-result c = let a = c .before .before .args in let h = read-lt (a .word .now) (a .at) 4 (omega arith) (c .field .ensures) in search (needs, h)
+
+-- src/plain.rt:18:1
+returns : tie.Need-returns
+returns c = search needs
+
+pub pipes-at-spec : {M : Type 1} → statement M
+pipes-at-spec = tie.close (tie.spec field-requires cast-result returns)
