@@ -1,0 +1,4 @@
+pub mod Headers
+pub mod Counts
+pub mod Checked
+pub mod Agree

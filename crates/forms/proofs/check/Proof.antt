@@ -1,0 +1,73 @@
+use mathlib.Core.Path.{sym, _∙_}
+use Rattle.forms.proofs.Checked.{header-faulty, faulty, sound}
+use borrow.Author.Needs.{needs}
+use Rattle.forms.proofs.check.Statement.{statement}
+use Rattle.forms.proofs.check.Tie as tie
+use Rattle.forms.proofs.check.Reads as reads
+use Rattle.forms.proofs.check.Lts as lts
+use Rattle.forms.proofs.stated.byte_of.Reads as byte-of-reads
+use Rattle.forms.proofs.stated.header_wrong.Reads as header-wrong-reads
+use Rattle.forms.proofs.records.record_fault.Reads as record-fault-reads
+
+-- src/lib.rt:15:8
+header-wrong-requires : tie.Need-header-wrong-requires
+header-wrong-requires c κs = search needs
+
+-- src/lib.rt:16:9
+returns : tie.Need-returns
+returns c = header-faulty (c .before .before .before .args .sheet .now) (sym (c .before .header-wrong .ensures) ∙ c .if1 .taken)
+
+-- src/lib.rt:18:9
+byte-of-requires : tie.Need-byte-of-requires
+byte-of-requires c κs = search needs
+
+-- src/lib.rt:19:13
+byte-of-requires-2 : tie.Need-byte-of-requires-2
+byte-of-requires-2 c κs = search needs
+
+-- src/lib.rt:19:13
+cast-s : tie.Need-cast-s
+cast-s c = search needs
+
+-- src/lib.rt:20:13
+byte-of-requires-3 : tie.Need-byte-of-requires-3
+byte-of-requires-3 c κs = search needs
+
+-- src/lib.rt:20:13
+cast-d : tie.Need-cast-d
+cast-d c = search needs
+
+-- src/lib.rt:21:9
+record-fault-requires : tie.Need-record-fault-requires
+record-fault-requires c κs = search needs
+
+-- src/lib.rt:23:9
+returns-2 : tie.Need-returns-2
+returns-2 c =
+    let b = c .before .before .before .before in
+    let h = b .before .before in
+    faulty (h .before .before .args .sheet .now) (sym (h .header-wrong .ensures) ∙ b .before .if1 .left) (b .byte-of .ensures) (c .before .before .before .byte-of2 .ensures)
+    (c .before .before .byte-of3 .ensures) (c .before .record-fault .ensures) (c .if2 .taken)
+
+-- src/lib.rt:12:1
+returns-3 : tie.Need-returns-3
+returns-3 c =
+    let b = c .before .before .before .before in
+    let h = b .before .before in
+    sound (h .before .before .args .sheet .now) (sym (h .header-wrong .ensures) ∙ b .before .if1 .left) (b .byte-of .ensures) (c .before .before .before .byte-of2 .ensures)
+    (c .before .before .byte-of3 .ensures) (c .before .record-fault .ensures) (c .if2 .left)
+
+pub check-spec : {M : Type 1} → statement M
+check-spec =
+    tie.close
+    (tie.spec
+    header-wrong-requires
+    returns
+    byte-of-requires
+    byte-of-requires-2
+    cast-s
+    byte-of-requires-3
+    cast-d
+    record-fault-requires
+    returns-2
+    returns-3)

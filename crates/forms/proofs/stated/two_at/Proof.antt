@@ -1,0 +1,53 @@
+use Prim.Native.Nat.{ℕ, _+_, _*_}
+use mathlib.Core.Path.{ap₂}
+use borrow.Author.Needs.{needs}
+use Rattle.forms.proofs.stated.two_at.Statement.{statement}
+use Rattle.forms.proofs.stated.two_at.Tie as tie
+use Rattle.forms.proofs.stated.two_at.Reads as reads
+use Rattle.forms.proofs.stated.two_at.Lts as lts
+use Rattle.forms.proofs.stated.byte_of.Reads as byte-of-reads
+
+-- src/header.rt:29:5
+byte-of-requires : tie.Need-byte-of-requires
+byte-of-requires c κs = search needs
+
+-- src/header.rt:29:5
+cast-result : tie.Need-cast-result
+cast-result c = search needs
+
+-- src/header.rt:29:5
+mul-result : tie.Need-mul-result
+mul-result c = search needs
+
+-- src/header.rt:29:55
+add-byte-of : tie.Need-add-byte-of
+add-byte-of c = search needs
+
+-- src/header.rt:29:40
+byte-of-requires-2 : tie.Need-byte-of-requires-2
+byte-of-requires-2 c κs = search needs
+
+-- src/header.rt:29:40
+cast-result-2 : tie.Need-cast-result-2
+cast-result-2 c = search needs
+
+-- src/header.rt:29:5
+add-result : tie.Need-add-result
+add-result c = search needs
+
+-- src/header.rt:25:1
+returns : tie.Need-returns
+returns c = ap₂ (λ (x y : ℕ). x * 256 + y) (c .before .byte-of .ensures) (c .byte-of2 .ensures)
+
+pub two-at-spec : {M : Type 1} → statement M
+two-at-spec =
+    tie.close
+    (tie.spec
+    byte-of-requires
+    cast-result
+    mul-result
+    add-byte-of
+    byte-of-requires-2
+    cast-result-2
+    add-result
+    returns)

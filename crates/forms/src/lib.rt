@@ -1,0 +1,27 @@
+// Forms of a sheet (document 01): its header, written and judged, and its records judged over counts that are given.
+pub mod header;
+pub mod records;
+mod stated;
+
+use sheets::answer::Answer;
+use sheets::view::FORM1;
+ghost use mathlib.Core.Path.{_≡_};
+ghost use Rattle.description.specs.Form1.{checked};
+ghost use Rattle.sheets.specs.Answers.{told};
+
+// Judges a sheet of form 1, of any length, in the order from sheet to word: 12 14 6 13 7 9 10 11.
+pub fn check(sheet: &[u8]) -> Answer
+    ensures { λ r. ⌜ told r ≡ checked (now (sheet .entry)) ⌝ }
+{
+    if stated::header_wrong(sheet, FORM1) {
+        return Answer::Refused(ground::HEADER_WRONG);
+    }
+    let p = stated::byte_of(sheet, 0);
+    let s = stated::byte_of(sheet, 1) as u16;
+    let d = stated::byte_of(sheet, 2) as u16;
+    let n = records::record_fault(sheet, FORM1, p, s, d);
+    if n != 0 {
+        return Answer::Refused(n);
+    }
+    Answer::Accepted { p, s, d }
+}

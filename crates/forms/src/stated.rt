@@ -1,0 +1,56 @@
+// What the header of a sheet states, and its test.
+use crate::header::MULTIPLEX_AND_TAIL;
+use crate::header::PIPE;
+use crate::header::SECTION;
+use crate::header::STREAM;
+ghost use mathlib.Core.Path.{_≡_};
+ghost use Prim.Native.Nat.{_<_};
+ghost use lib.ListN.{getD};
+ghost use Rattle.description.specs.Header.{twoAt, headerFault};
+
+// A byte of a sheet, and 0 past its end.
+pub fn byte_of(sheet: &[u8], i: usize) -> u8
+    ensures { λ r. ⌜ r ≡ getD (now (sheet .entry)) i 0 ⌝ }
+{
+    if i < sheet.len() {
+        return sheet[i];
+    }
+    0
+}
+
+// The number in two bytes of a sheet.
+fn two_at(sheet: &[u8], i: usize) -> usize
+    requires { ⌜ i < 4096 ⌝ }
+    ensures { λ r. ⌜ r ≡ twoAt (now (sheet .entry)) i ⌝ }
+{
+    byte_of(sheet, i) as usize * 256 + byte_of(sheet, i + 1) as usize
+}
+
+// 12: whether a header of h bytes is wrong.
+pub fn header_wrong(sheet: &[u8], h: u8) -> bool
+    ensures { λ r. ⌜ r ≡ headerFault h (now (sheet .entry)) ⌝ }
+{
+    let pipes = h as usize + MULTIPLEX_AND_TAIL;
+    if sheet.len() < pipes {
+        return true;
+    }
+    let streams = pipes + PIPE * byte_of(sheet, 0) as usize;
+    let sections = streams + STREAM * byte_of(sheet, 1) as usize;
+    let end = sections + SECTION * byte_of(sheet, 2) as usize;
+    if byte_of(sheet, 3) != 0 {
+        return true;
+    }
+    if two_at(sheet, 4) != pipes {
+        return true;
+    }
+    if two_at(sheet, 6) != streams {
+        return true;
+    }
+    if two_at(sheet, 8) != sections {
+        return true;
+    }
+    if two_at(sheet, 10) != end {
+        return true;
+    }
+    sheet.len() != end
+}
