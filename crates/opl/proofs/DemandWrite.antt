@@ -1,6 +1,5 @@
 -- What is asked of the writer, over the promise of the exported one.
 -- Assumes nothing.
-use Prim.Native.Nat.{ℕ}
 use mathlib.Core.Path.{_≡_}
 use contract.Lifetimes.{Lfts}
 use borrow.Fn.World.{ArgsD, ResD}
@@ -9,7 +8,7 @@ use denote.Ref.{now}
 use denote.Triple.Clauses.{AtExit}
 use lib.ListN.{length}
 use Rattle.bits.specs.Lists.{Below}
-use Rattle.description.proofs.DemandWrite.{Wanted, wanted-number}
+use Rattle.description.proofs.DemandWrite.{Wanted, wanted}
 use Rattle.opl.proofs.opl_signalling_write as opl-signalling-write
 use Rattle.opl.proofs.opl_signalling_write.Kinds as kinds
 use Rattle.opl.proofs.opl_signalling_write.Reads as reads
@@ -20,4 +19,4 @@ module _ (κs : Lfts 2) (a : ArgsD opl-signalling-write.signature κs) where
   pub wants : (r : ResD opl-signalling-write.signature κs) (s : AtExit (endedOf 2 kinds.ps kinds.r) κs) → reads.Post κs a r s
       → Below 256 (now (a .0)) → length (now (a .1 .0)) ≡ 96
       → Wanted (now (a .0)) (now (a .1 .0)) r (now (s .1 .0))
-  wants r s p bytes n = wanted-number (now (a .0)) (now (a .1 .0)) r (now (s .1 .0)) bytes n p
+  wants r s p bytes n = wanted (now (a .0)) (now (a .1 .0)) r (now (s .1 .0)) bytes n p

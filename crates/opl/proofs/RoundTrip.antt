@@ -1,6 +1,6 @@
 -- Round trips over the promises of the exported reader and writer: the word comes back, the sheet comes back, and two sheets with one word are one sheet.
 -- Assumes nothing.
-use Prim.Native.Nat.{ℕ, _≤_}
+use Prim.Native.Nat.{_≤_}
 use mathlib.Core.Path.{_≡_}
 use contract.Lifetimes.{Lfts}
 use borrow.Fn.World.{ArgsD, ResD}

@@ -1,5 +1,6 @@
 // The C face: exported functions on numbers and byte slices, each a call of the crate that does the work.
 // include/opl.h documents them for their callers.
+use sheets::answer::Answer;
 ghost use Rattle.ground.specs.Outcome.{Is, numberOf};
 ghost use Rattle.description.specs.Word.{reading};
 ghost use Rattle.description.specs.Form1.{writing};
@@ -19,12 +20,9 @@ pub extern "C" fn opl_preamble(out: &mut [u8]) -> u8
 // The signalling word of a sheet into 96 bytes.
 #[no_mangle]
 pub extern "C" fn opl_signalling_write(sheet: &[u8], word: &mut [u8]) -> u8
-    ensures { λ r. ⌜ Is (numberOf (writing (now (sheet .entry)) (now (word .entry)))) r (now (word .exit)) ⌝ }
+    ensures { λ r. ⌜ Is (writing (now (sheet .entry)) (now (word .entry))) r (now (word .exit)) ⌝ }
 {
-    match signalling::write(sheet, word) {
-        signalling::Writing::Accepted => 0,
-        signalling::Writing::Refused(n) => n,
-    }
+    to_word::write(sheet, word)
 }
 
 // A signalling word of 96 bytes read into the front of a sheet of 128 bytes or more.
@@ -32,9 +30,9 @@ pub extern "C" fn opl_signalling_write(sheet: &[u8], word: &mut [u8]) -> u8
 pub extern "C" fn opl_signalling_read(word: &[u8], sheet: &mut [u8]) -> u8
     ensures { λ r. ⌜ Is (numberOf (reading (now (word .entry)) (now (sheet .entry)))) r (now (sheet .exit)) ⌝ }
 {
-    match signalling::read(word, sheet) {
-        signalling::Reading::Accepted { p: _, s: _, d: _ } => 0,
-        signalling::Reading::Refused(n) => n,
+    match to_sheet::read(word, sheet) {
+        Answer::Accepted { p: _, s: _, d: _ } => 0,
+        Answer::Refused(n) => n,
     }
 }
 

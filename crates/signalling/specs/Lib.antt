@@ -1,4 +1,0 @@
-pub mod Answers
-pub mod CheckAnswers
-pub mod WriteAnswers
-pub mod Filled

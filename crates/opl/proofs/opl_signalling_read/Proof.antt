@@ -1,13 +1,13 @@
 -- `opl::opl_signalling_read` meets its contract. Assumes nothing.
 use mathlib.Core.Path.{ap}
 use Rattle.ground.proofs.Outcome.{number-is}
-use Rattle.signalling.specs.Answers.{told}
+use Rattle.sheets.specs.Answers.{told}
 use borrow.Author.Needs.{needs}
 use Rattle.opl.proofs.opl_signalling_read.Statement.{statement}
 use Rattle.opl.proofs.opl_signalling_read.Tie as tie
 use Rattle.opl.proofs.opl_signalling_read.Reads as reads
 use Rattle.opl.proofs.opl_signalling_read.Lts as lts
-use Rattle.signalling.proofs.read.Reads as read-reads
+use Rattle.to_sheet.proofs.read.Reads as read-reads
 
 read-requires : tie.Need-read-requires
 read-requires c κs = search needs

@@ -1,36 +1,19 @@
--- `opl::opl_signalling_write` meets its contract. Assumes nothing.
-use mathlib.Core.Path.{ap}
-use Rattle.ground.proofs.Outcome.{number-is}
-use Rattle.signalling.specs.WriteAnswers.{toldWrite}
+-- `opl::opl_signalling_write` meets its contract: it is that of the function called. Assumes nothing.
 use borrow.Author.Needs.{needs}
 use Rattle.opl.proofs.opl_signalling_write.Statement.{statement}
 use Rattle.opl.proofs.opl_signalling_write.Tie as tie
 use Rattle.opl.proofs.opl_signalling_write.Reads as reads
 use Rattle.opl.proofs.opl_signalling_write.Lts as lts
-use Rattle.signalling.proofs.write.Reads as write-reads
+use Rattle.to_word.proofs.write.Reads as write-reads
 
 write-requires : tie.Need-write-requires
 write-requires c κs = search needs
-
-enum-told : tie.Need-enum-told
-enum-told c = search needs
-
-enum-known-n : tie.Need-enum-known-n
-enum-known-n c = search needs
 
 same-length : tie.Need-same-length
 same-length c = search needs
 
 returns : tie.Need-returns
-returns c = number-is (c .before .before .before .before .write .ensures) (ap (λ r. toldWrite r .number) (c .enum-told .given .1))
-
-same-length-2 : tie.Need-same-length-2
-same-length-2 c = search needs
-
-returns-2 : tie.Need-returns-2
-returns-2 c = number-is (c .before .before .before .before .before .write .ensures) (ap (λ r. toldWrite r .number) (c .before .n .given .1))
+returns c = c .before .before .write .ensures
 
 pub opl-signalling-write-spec : {M : Type 1} → statement M
-opl-signalling-write-spec =
-    tie.close
-    (tie.spec write-requires enum-told enum-known-n same-length returns same-length-2 returns-2)
+opl-signalling-write-spec = tie.close (tie.spec write-requires same-length returns)

@@ -1,0 +1,5 @@
+pub mod Sinks
+pub mod Parts
+pub mod Written
+pub mod Agree
+pub mod DemandWrite
