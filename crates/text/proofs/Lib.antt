@@ -1,6 +1,3 @@
-pub mod Puts
-pub mod Decimal
-pub mod Filled
 pub mod Lines
 pub mod Short
 pub mod Listed

@@ -10,18 +10,20 @@ use lib.ListN.{length}
 use Rattle.ground.specs.Outcome.{Outcome, Told, Is}
 use Rattle.ground.proofs.Outcome.{gave}
 use Rattle.ground.proofs.Choice.{choose-true, choose-false, choose-most, all-clear}
-use Rattle.ground.proofs.Answers.{refusedBy}
-use Rattle.bits.specs.Lists.{unpack}
+use Rattle.ground.proofs.Answers.{refusedBy, refused-by}
 use Rattle.description.specs.Word.{front}
-use Rattle.description.specs.Form1.{pStated, sStated, dStated, sheetLists, sheetFaults, checked}
-use Rattle.description.proofs.Tests.{lists-clear}
-use Rattle.signalling.proofs.Readings.{counted}
-use Rattle.signalling.proofs.Judged.{said, no-sheet, long-enough, lists≡, size≡}
+use Rattle.description.specs.Sheet.{form1}
+use Rattle.description.specs.Header.{pStated, sStated, dStated}
+use Rattle.description.specs.Form1.{listsStated, sheetFaults, recordFaults, checked}
+use Rattle.description.proofs.Restated.{right-header}
+use Rattle.sheets.specs.View.{sheetView, listsAt}
+use Rattle.sheets.proofs.Lists.{sheet-lists}
+use Rattle.sheets.proofs.Found.{Found, counted, counted-found}
+use Rattle.words.specs.Words.{put}
+use Rattle.words.proofs.Puts.{put-front}
 use Rattle.text.specs.Listing.{accepted, refused, listing}
 use Rattle.text.specs.Answers.{answered, listed}
-use Rattle.text.specs.Put.{Put, Stated}
-use Rattle.text.proofs.Puts.{put-front}
-use Rattle.text.proofs.Short.{stated-short, listing-short}
+use Rattle.text.proofs.Short.{listing-short}
 
 module _ (sh out : List ℕ) where
   pub no-room : length out < 1024 → Is (listed sh out) (record { number = 1; values = [] }) out
@@ -29,43 +31,42 @@ module _ (sh out : List ℕ) where
   no-room h = gave (choose-true _ _ (lt-ltb (length out) 1024 h))
 
   module _ (room : 1024 ≤ length out) where
-    text-put : {t : Told} {text out' : List ℕ} → listing sh ≡ text → answered sh ≡ t → out' ≡ front text out → Is (listed sh out) t out'
+    -- the whole text has room
+    whole : (text : List ℕ) → listing sh ≡ text → {n : ℕ} {out' : List ℕ} → Is (put out 0 text) n out' → (n ≡ length (listing sh)) × (out' ≡ front (listing sh) out)
+    whole text e {n} {out'} p = put-front out (listing sh) (omega (arith, listing-short sh)) (subst (λ (x : List ℕ). Is (put out 0 x) n out') (sym e) p)
+
+    text-put : {t : Told} {out' : List ℕ} → answered sh ≡ t → out' ≡ front (listing sh) out → Is (listed sh out) t out'
     unfolding listed
-    text-put e a m =
-        gave (choose-false _ _ (le-ltb (length out) 1024 room) ∙ ap₂ (λ (x : Told) (y : List ℕ). record { answer = x; memory = y }) a (ap (λ (x : List ℕ). front x out) e ∙ sym m))
+    text-put a m =
+        gave (choose-false _ _ (le-ltb (length out) 1024 room) ∙ ap₂ (λ (x : Told) (y : List ℕ). record { answer = x; memory = y }) a (sym m))
 
     -- ---- accepted
     module _ (p s d : ℕ) (e : counted p s d ≡ checked sh) where
-      pub stated : Stated sh p s d out
-      unfolding sheetFaults
-      stated =
-          let f = said sh p s d e in
-          let a = all-clear (sheetFaults sh) tt (f .clear) in
-          let n = size≡ sh (a .0) p s d (f .pipes) (f .streams) (f .sections) in
-          let b = lists-clear (pStated sh) (sStated sh) (dStated sh) (a .1 .1 .1 .1 .0) in
-          record {
-            sheet = long-enough sh (a .0) p s d (f .pipes) (f .streams) (f .sections);
-            pipes = omega arith;
-            streams = omega arith;
-            sections = omega arith;
-            room = omega (arith, stated-short sh p s d (omega arith));
-          }
+      clear : checked sh .number ≡ 0
+      clear = ap (λ t. t .number) (sym e)
 
-      text-is : listing sh ≡ accepted (sheetLists p s d (unpack sh))
-      unfolding listing sheetFaults
-      text-is =
-          let f = said sh p s d e in
-          let a = all-clear (sheetFaults sh) tt (f .clear) in
-          choose-true _ _ (eq-eqb (checked sh .number) 0 (ap (λ t. t .number) (sym e)))
-          ∙ ap accepted (sym (lists≡ sh (a .0) p s d (f .pipes) (f .streams) (f .sections)))
+      found : Found (sheetFaults sh) p s d (pStated sh) (sStated sh) (dStated sh)
+      unfolding checked
+      found = counted-found (sheetFaults sh) (pStated sh) (sStated sh) (dStated sh) e
 
-      pub accepted-put : {out' : List ℕ} {n : ℕ} → Put out 0 (accepted (sheetLists p s d (unpack sh))) out' n → Is (listed sh out) (record { number = 0; values = n ∷ [] }) out'
+      -- the lists that stand where the view says are those that the sheet states
+      lists-are : listsAt (sheetView form1 p s) p s d sh ≡ listsStated sh
+      unfolding listsStated sheetFaults recordFaults
+      lists-are =
+          let h = right-header sh (all-clear (sheetFaults sh) tt (found .clear) .0) in
+          (λ i. listsAt (sheetView form1 (found .pipes i) (found .streams i)) (found .pipes i) (found .streams i) (found .sections i) sh)
+          ∙ sheet-lists form1 (pStated sh) (sStated sh) (dStated sh) sh (h .whole)
+
+      text-is : listing sh ≡ accepted (listsAt (sheetView form1 p s) p s d sh)
+      unfolding listing
+      text-is = choose-true _ _ (eq-eqb (checked sh .number) 0 clear) ∙ ap accepted (sym lists-are)
+
+      pub accepted-put : {n : ℕ} {out' : List ℕ} → Is (put out 0 (accepted (listsAt (sheetView form1 p s) p s d sh))) n out'
+          → Is (listed sh out) (record { number = 0; values = n ∷ [] }) out'
       unfolding answered
       accepted-put q =
-          let f = put-front q in
-          text-put text-is
-          (choose-true _ _ (eq-eqb (checked sh .number) 0 (ap (λ t. t .number) (sym e))) ∙ ap (λ (k : ℕ). record { number = 0; values = k ∷ [] }) (ap length text-is ∙ sym (f .0)))
-          (f .1)
+          let f = whole _ text-is q in
+          text-put (choose-true _ _ (eq-eqb (checked sh .number) 0 clear) ∙ ap (λ (k : ℕ). record { number = 0; values = k ∷ [] }) (sym (f .0))) (f .1)
 
     -- ---- refused
     module _ (m : ℕ) (e : refusedBy m ≡ checked sh) where
@@ -73,19 +74,19 @@ module _ (sh out : List ℕ) where
       number-is = ap (λ t. t .number) (sym e)
 
       not-clear : checked sh .number ≡ 0 → ⊥
-      not-clear z = let h = no-sheet sh m e in h .0 (sym (h .1) ∙ sym number-is ∙ z)
+      unfolding checked
+      not-clear z = let h = refused-by (sheetFaults sh) (pStated sh) (sStated sh ∷ dStated sh ∷ []) e in h .0 (sym (h .1) ∙ sym number-is ∙ z)
 
       text-refused : listing sh ≡ refused m
       unfolding listing
       text-refused = choose-false _ _ (ne-eqb (checked sh .number) 0 not-clear) ∙ ap refused number-is
 
-      pub refused-put : {out' : List ℕ} {n : ℕ} → Put out 0 (refused m) out' n → Is (listed sh out) (record { number = m; values = m ∷ n ∷ [] }) out'
+      pub refused-put : {n : ℕ} {out' : List ℕ} → Is (put out 0 (refused m)) n out' → Is (listed sh out) (record { number = m; values = m ∷ n ∷ [] }) out'
       unfolding answered
       refused-put q =
-          let f = put-front q in
-          text-put text-refused
-          (choose-false _ _ (ne-eqb (checked sh .number) 0 not-clear)
-          ∙ ap₂ (λ (j k : ℕ). record { number = j; values = j ∷ k ∷ [] }) number-is (ap length text-refused ∙ sym (f .0)))
+          let f = whole (refused m) text-refused q in
+          text-put
+          (choose-false _ _ (ne-eqb (checked sh .number) 0 not-clear) ∙ ap₂ (λ (j k : ℕ). record { number = j; values = j ∷ k ∷ [] }) number-is (sym (f .0)))
           (f .1)
 
 -- ---- how long the text is that an answer tells of: its last value

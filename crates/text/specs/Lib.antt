@@ -1,4 +1,2 @@
-pub mod Words
 pub mod Listing
 pub mod Answers
-pub mod Put

@@ -8,7 +8,7 @@ use Rattle.ground.specs.Choice.{choose}
 use Rattle.description.specs.Fields.{operatorId, frameIndex, punctPat, pipeWidth, tailWidth}
 use Rattle.description.specs.Description.{Lists, ownStreams, ownSections}
 use Rattle.description.specs.Form1.{listsStated, checked}
-use Rattle.text.specs.Words.{line}
+use Rattle.words.specs.Words.{line}
 
 -- operator id, frame index, p, s and d
 unfoldable pub multiplexLine : Lists → List ℕ

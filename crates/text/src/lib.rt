@@ -1,11 +1,10 @@
 // The listing of a sheet (document 01, "Points on either side"), as text.
-mod put;
 mod records;
 
-use signalling::Checking;
+use sheets::answer::Answer;
 ghost use mathlib.Core.Path.{_≡_};
 ghost use Rattle.ground.specs.Outcome.{Is};
-ghost use Rattle.signalling.specs.CheckAnswers.{toldCheck};
+ghost use Rattle.sheets.specs.Answers.{told as toldSheet};
 ghost use Rattle.text.specs.Answers.{told, listed};
 
 // What listing a sheet gives: the length of its text; the refusal number, and the length of the text that says it; or that there is no room.
@@ -16,12 +15,12 @@ pub enum Listing {
 }
 
 // The number of an answer, 0 where the sheet is accepted.
-fn refusal(answer: Checking) -> u8
-    ensures { λ r. ⌜ r ≡ toldCheck answer .number ⌝ }
+fn refusal(answer: Answer) -> u8
+    ensures { λ r. ⌜ r ≡ toldSheet answer .number ⌝ }
 {
     match answer {
-        Checking::Accepted { p: _, s: _, d: _ } => 0,
-        Checking::Refused(n) => n,
+        Answer::Accepted { p: _, s: _, d: _ } => 0,
+        Answer::Refused(n) => n,
     }
 }
 
@@ -32,10 +31,10 @@ pub fn list(sheet: &[u8], out: &mut [u8]) -> Listing
     if out.len() < 1024 {
         return Listing::NoRoom;
     }
-    let answer = signalling::check(sheet);
-    let Checking::Accepted { p, s, d } = answer else {
+    let answer = forms::check(sheet);
+    let Answer::Accepted { p, s, d } = answer else {
         let number = refusal(answer);
-        let n = put::line(out, 0, b"refused #\n", &[number as u32]);
+        let n = words::line(out, 0, b"refused #\n", &[number as u32]);
         return Listing::Refused { number, n };
     };
     Listing::Text(records::lines(sheet, p, s, d, out))

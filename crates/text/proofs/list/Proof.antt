@@ -1,25 +1,21 @@
 -- `text::list` meets its contract. Assumes nothing.
 use mathlib.Core.Path.{sym, ap, _∙_}
-use native.Mathlib.Omega.{arith}
 use borrow.Author.Needs.{needs}
-use Rattle.signalling.specs.CheckAnswers.{toldCheck}
 use Rattle.ground.proofs.Answers.{refusedBy}
+use Rattle.sheets.specs.Answers.{told}
 use Rattle.text.specs.Listing.{refused}
-use Rattle.text.proofs.Short.{refused-short}
-use Rattle.text.proofs.Listed.{no-room, stated, accepted-put, refused-put}
+use Rattle.text.proofs.Listed.{no-room, accepted-put, refused-put}
 use Rattle.text.proofs.list.Statement.{statement}
 use Rattle.text.proofs.list.Tie as tie
 use Rattle.text.proofs.list.Reads as reads
 use Rattle.text.proofs.list.Lts as lts
-use Rattle.signalling.proofs.check.Reads as check-reads
-use Rattle.text.proofs.put.line.Reads as line-reads
+use Rattle.forms.proofs.check.Reads as check-reads
 use Rattle.text.proofs.records.lines.Reads as lines-reads
 use Rattle.text.proofs.refusal.Reads as refusal-reads
+use Rattle.words.proofs.line.Reads as line-reads
 
 returns : tie.Need-returns
-returns c =
-    let a = c .before .before .before .args in
-    no-room (a .sheet .now) (a .out .now) (search needs)
+returns c = let a = c .before .before .before .args in no-room (a .sheet .now) (a .out .now) (search needs)
 
 check-requires : tie.Need-check-requires
 check-requires c κs = search needs
@@ -42,6 +38,12 @@ cast-t17 c = search needs
 slice-aggregate-line-2 : tie.Need-slice-aggregate-line-2
 slice-aggregate-line-2 c = search needs
 
+line-requires : tie.Need-line-requires
+line-requires c κs = search needs
+
+same-length : tie.Need-same-length
+same-length c = search needs
+
 returns-2 : tie.Need-returns-2
 unfolding refused
 returns-2 c =
@@ -49,21 +51,11 @@ returns-2 c =
     let f = r .before .enum-told .given in
     let k = r .before .before .before in
     let a = k .before .before .before .before .args in
-    let m = r .refusal .ensures ∙ ap (λ x. toldCheck x .number) (f .1) in
-    refused-put (a .sheet .now) (a .out .now) (search needs) (r .refusal .result) (ap refusedBy m ∙ sym (ap toldCheck (f .1)) ∙ k .check .ensures) (c .before .before .line .ensures)
-
-line-requires : tie.Need-line-requires
-unfolding refused
-line-requires c κs = omega (arith, refused-short (c .before .before .before .refusal .result) (search needs))
-
-same-length : tie.Need-same-length
-same-length c = search needs
+    let m = r .refusal .ensures ∙ ap (λ x. told x .number) (f .1) in
+    refused-put (a .sheet .now) (a .out .now) (search needs) (r .refusal .result) (ap refusedBy m ∙ sym (ap told (f .1)) ∙ k .check .ensures) (c .before .before .line .ensures)
 
 lines-requires : tie.Need-lines-requires
-lines-requires c κs =
-    let f = c .before .before .answer .given in
-    let a = c .before .before .before .before .before .before .before .before .args in
-    stated (a .sheet .now) (a .out .now) (search needs) (f .0 .0) (f .0 .1 .0) (f .0 .1 .1 .0) (sym (ap toldCheck (f .1)) ∙ c .before .before .before .before .check .ensures)
+lines-requires c κs = search needs
 
 same-length-2 : tie.Need-same-length-2
 same-length-2 c = search needs
@@ -71,8 +63,9 @@ same-length-2 c = search needs
 returns-3 : tie.Need-returns-3
 returns-3 c =
     let f = c .before .before .before .before .before .answer .given in
-    let a = c .before .before .before .before .before .before .before .before .before .before .before .args in
-    accepted-put (a .sheet .now) (a .out .now) (search needs) (f .0 .0) (f .0 .1 .0) (f .0 .1 .1 .0) (sym (ap toldCheck (f .1)) ∙ c .before .before .before .before .before .before .before .check .ensures) (c .before .before .lines .ensures)
+    let k = c .before .before .before .before .before .before .before in
+    let a = k .before .before .before .before .args in
+    accepted-put (a .sheet .now) (a .out .now) (search needs) (f .0 .0) (f .0 .1 .0) (f .0 .1 .1 .0) (sym (ap told (f .1)) ∙ k .check .ensures) (c .before .before .lines .ensures)
 
 pub list-spec : {M : Type 1} → statement M
 list-spec =

@@ -1,64 +1,46 @@
 -- `text::records::pipes` meets its contract: after i turns the lines of i pipes are put. Assumes nothing.
-use Prim.Native.Nat.{_+_, _-_, _*_}
-use native.Mathlib.Omega.{arith}
+use Prim.Native.Nat.{_-_}
 use borrow.Author.Needs.{needs}
-use lib.ListN.{drop}
-use Rattle.bits.specs.Lists.{unpack}
-use Rattle.description.specs.Rows.{cuts}
-use Rattle.description.specs.Fields.{table16}
-use Rattle.description.proofs.Rows.{cuts-length}
-use Rattle.signalling.proofs.Records.{pipeAt, pipe-is}
-use Rattle.text.proofs.Lines.{Lined, lined-none, line-room, lined-more, lined-all}
+use Rattle.text.proofs.Lines.{Lined, lined-none, lined-more, lined-all}
 use Rattle.text.proofs.records.pipes.Statement.{statement}
 use Rattle.text.proofs.records.pipes.Tie as tie
 use Rattle.text.proofs.records.pipes.Reads as reads
 use Rattle.text.proofs.records.pipes.Lts as lts
-use Rattle.text.proofs.records.pipe.Reads as pipe-reads
+use Rattle.sheets.proofs.records.pipe_at.Reads as pipe-at-reads
+use Rattle.words.proofs.line.Reads as line-reads
 
 abbrev Inv-loop : tie.InvT-loop
-Inv-loop sheet p out₀ at to₀ i₀ out to i = Lined out₀ at (cuts table16 p (drop 168 (unpack sheet))) out to i
+Inv-loop sheet at p out₀ to next₀ i₀ text out next i = Lined out₀ to sheet at p out next i
 
 abbrev μ-loop : tie.MeasureT-loop
-μ-loop sheet p out₀ at to₀ i₀ out to i = p - i
+μ-loop sheet at p out₀ to next₀ i₀ text out next i = p - i
 
 loop-holds : tie.Need-loop-holds Inv-loop μ-loop
-loop-holds c =
-    let a = c .before .before .args in
-    lined-none (a .out .now) (a .at) (cuts table16 (a .p) (drop 168 (unpack (a .sheet .now))))
+loop-holds c = let a = c .before .before .args in lined-none (a .out .now) (a .to) (a .sheet .now) (a .at) (a .p)
 
-mul-pipe : tie.Need-mul-pipe Inv-loop μ-loop
-mul-pipe c = search needs
+pipe-at-requires : tie.Need-pipe-at-requires Inv-loop μ-loop
+pipe-at-requires c κs = search needs
 
-add-pipe : tie.Need-add-pipe Inv-loop μ-loop
-add-pipe c = search needs
+slice-aggregate-line : tie.Need-slice-aggregate-line Inv-loop μ-loop
+slice-aggregate-line c = search needs
 
-add-pipe-2 : tie.Need-add-pipe-2 Inv-loop μ-loop
-add-pipe-2 c = search needs
+cast-t16 : tie.Need-cast-t16 Inv-loop μ-loop
+cast-t16 c = search needs
 
-cast-pipe : tie.Need-cast-pipe Inv-loop μ-loop
-cast-pipe c = search needs
+add-t17 : tie.Need-add-t17 Inv-loop μ-loop
+add-t17 c = search needs
 
-loop-again : tie.Need-loop-again Inv-loop μ-loop
-loop-again c =
-    let l = c .before .before .before .before .before in
-    let s = l .before .before .before in
-    let a = s .args in
-    let n = cuts-length table16 (a .p) (drop 168 (unpack (a .sheet .now))) in
-    lined-more (cuts table16 (a .p) (drop 168 (unpack (a .sheet .now)))) (l .loop .i) (omega arith)
-    (pipeAt (a .sheet .now) (168 + 48 * l .loop .i)) (pipe-is (a .sheet .now) 168 (a .p) (l .loop .i) (c .before .before .before .before .loop-test .taken)) (l .loop .inv) (s .pre .2)
-    (search needs) (c .before .before .pipe .ensures)
+cast-t18 : tie.Need-cast-t18 Inv-loop μ-loop
+cast-t18 c = search needs
 
-pipe-requires : tie.Need-pipe-requires Inv-loop μ-loop
-pipe-requires c κs =
-    let l = c .before .before in
-    let s = l .before .before .before in
-    let a = s .args in
-    let n = cuts-length table16 (a .p) (drop 168 (unpack (a .sheet .now))) in (
-      omega arith,
-      search needs,
-      line-room (cuts table16 (a .p) (drop 168 (unpack (a .sheet .now)))) (l .loop .i) (omega arith)
-          (pipeAt (a .sheet .now) (168 + 48 * l .loop .i)) (pipe-is (a .sheet .now) 168 (a .p) (l .loop .i) (c .before .loop-test .taken)) (l .loop .inv) (s .pre .2),
-    )
+cast-t19 : tie.Need-cast-t19 Inv-loop μ-loop
+cast-t19 c = search needs
+
+slice-aggregate-line-2 : tie.Need-slice-aggregate-line-2 Inv-loop μ-loop
+slice-aggregate-line-2 c = search needs
+
+line-requires : tie.Need-line-requires Inv-loop μ-loop
+line-requires c κs = search needs
 
 add-i : tie.Need-add-i Inv-loop μ-loop
 add-i c = search needs
@@ -66,13 +48,20 @@ add-i c = search needs
 loop-less : tie.Need-loop-less Inv-loop μ-loop
 loop-less c = search needs
 
+loop-again : tie.Need-loop-again Inv-loop μ-loop
+loop-again c =
+    let q = c .before .before .before .before .before .before .before .before in
+    let l = q .before .before in
+    let a = l .before .before .before .args in
+    lined-more (a .out .now) (a .to) (a .sheet .now) (a .at) (a .p) (l .loop .inv) (q .before .loop-test .taken) (q .pipe-at .result) (q .pipe-at .ensures) (c .before .before .line .ensures)
+
 same-length : tie.Need-same-length Inv-loop μ-loop
 same-length c = search needs
 
 returns : tie.Need-returns Inv-loop μ-loop
 returns c =
     let a = c .before .before .before .before .args in
-    lined-all (c .before .loop .inv) (omega (arith, cuts-length table16 (a .p) (drop 168 (unpack (a .sheet .now)))))
+    lined-all (a .out .now) (a .to) (a .sheet .now) (a .at) (a .p) (c .before .loop .inv) (search needs)
 
 pub pipes-spec : {M : Type 1} → statement M
 pipes-spec =
@@ -81,11 +70,14 @@ pipes-spec =
     Inv-loop
     μ-loop
     loop-holds
-    mul-pipe
-    add-pipe
-    add-pipe-2
-    cast-pipe
-    pipe-requires
+    pipe-at-requires
+    slice-aggregate-line
+    cast-t16
+    add-t17
+    cast-t18
+    cast-t19
+    slice-aggregate-line-2
+    line-requires
     add-i
     loop-less
     loop-again

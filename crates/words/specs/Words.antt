@@ -1,12 +1,13 @@
--- Text in ASCII: quoted words, numbers in decimal, and lines of both.
+-- Text in ASCII: quoted words, numbers in decimal, lines of both, and what a buffer holds into which they are put.
 -- Assumes nothing.
-use Prim.Native.Nat.{ℕ, zero, suc, _+_, _/_, _%_}
+use Prim.Native.Nat.{ℕ, zero, suc, _+_, _-_, _/_, _%_}
 use Prim.Native.Char.{code}
 use Prim.Native.String as string
 use Prim.Native.String.{String}
 use mathlib.Core.List.{List, [], _∷_, _++_}
 use lib.Dec.{eqb, ltb}
-use lib.ListN.{getD, drop}
+use lib.ListN.{length, getD, take, drop}
+use Rattle.ground.specs.Outcome.{Outcome}
 use Rattle.ground.specs.Choice.{choose}
 
 -- the bytes of a quoted text
@@ -38,3 +39,11 @@ filled (c ∷ text) ns = spelled c (getD ns 0 0) ++ filled text (drop (taken c) 
 
 abbrev pub line : String → List ℕ → List ℕ
 line text ns = filled (ascii text) ns
+
+-- text laid over a buffer from a place on: the place behind it, and the buffer afterwards
+abbrev pub laid : List ℕ → ℕ → List ℕ → Outcome ℕ (List ℕ)
+laid out at text = record { answer = at + length text; memory = take at out ++ text ++ drop (at + length text) out }
+
+-- text put into a buffer from a place on: what has no room behind the place is left out
+unfoldable pub put : List ℕ → ℕ → List ℕ → Outcome ℕ (List ℕ)
+put out at text = laid out at (take (length out - at) text)

@@ -1,15 +1,15 @@
--- `text::put::line` meets its contract: after i turns i signs are put. Assumes nothing.
+-- `words::line` meets its contract: after i turns i signs are put. Assumes nothing.
 use Prim.Native.Nat.{_-_}
 use borrow.Author.Needs.{needs}
 use lib.ListN.{length}
-use Rattle.text.proofs.Filled.{Passed, passed-none, sign-room, passed-more, passed-all}
-use Rattle.text.proofs.put.line.Statement.{statement}
-use Rattle.text.proofs.put.line.Tie as tie
-use Rattle.text.proofs.put.line.Reads as reads
-use Rattle.text.proofs.put.line.Lts as lts
-use Rattle.text.proofs.put.number_at.Reads as number-at-reads
-use Rattle.text.proofs.put.sign.Reads as sign-reads
-use Rattle.text.proofs.put.takes.Reads as takes-reads
+use Rattle.words.proofs.Filled.{Passed, passed-none, passed-more, passed-all}
+use Rattle.words.proofs.line.Statement.{statement}
+use Rattle.words.proofs.line.Tie as tie
+use Rattle.words.proofs.line.Reads as reads
+use Rattle.words.proofs.line.Lts as lts
+use Rattle.words.proofs.number_at.Reads as number-at-reads
+use Rattle.words.proofs.sign.Reads as sign-reads
+use Rattle.words.proofs.takes.Reads as takes-reads
 
 abbrev Inv-loop : tie.InvT-loop
 Inv-loop out₀ at text numbers to₀ n₀ i₀ out to n i = Passed out₀ at text numbers out to n i
@@ -29,9 +29,7 @@ number-at-requires : tie.Need-number-at-requires Inv-loop μ-loop
 number-at-requires c κs = search needs
 
 sign-requires : tie.Need-sign-requires Inv-loop μ-loop
-sign-requires c κs =
-    let l = c .before .before .before .before in
-    sign-room (l .loop .inv) (c .before .before .before .loop-test .taken) (l .before .before .before .before .pre) (c .number-at .ensures)
+sign-requires c κs = search needs
 
 takes-requires : tie.Need-takes-requires Inv-loop μ-loop
 takes-requires c κs = search needs
@@ -48,9 +46,8 @@ loop-less c = search needs
 loop-again : tie.Need-loop-again Inv-loop μ-loop
 loop-again c =
     let s = c .before .before .before in
-    let l = s .before .before .before .before .before in
-    passed-more (l .loop .inv) (s .before .before .before .before .loop-test .taken) (l .before .before .before .before .pre) (s .before .number-at .ensures)
-    (c .takes .ensures .0) (c .takes .ensures .1) (search needs) (s .sign .ensures)
+    passed-more (s .before .before .before .before .before .loop .inv) (s .before .before .before .before .loop-test .taken) (s .before .number-at .ensures) (c .takes .ensures .0)
+    (c .takes .ensures .1) (s .sign .ensures)
 
 same-length : tie.Need-same-length Inv-loop μ-loop
 same-length c = search needs

@@ -11,7 +11,7 @@ use lib.Dec.{ltb}
 use lib.ListN.{length, length-append}
 use Rattle.ground.specs.Choice.{choose}
 use Rattle.ground.proofs.Choice.{choose-true, choose-false}
-use Rattle.text.specs.Words.{digits, decimal}
+use Rattle.words.specs.Words.{digits, decimal}
 
 digits-one : (k n : ℕ) → n < 10 → digits k n ≡ (48 + n) ∷ []
 unfolding digits
@@ -40,10 +40,10 @@ decimal-more zero h = absurd (omega arith)
 decimal-more (suc n) h =
     digits-more n (suc n) h ∙ ap (λ (x : List ℕ). x ++ ((48 + suc n % 10) ∷ [])) (digits-same n (suc n / 10) (suc n / 10) (omega arith) (omega arith))
 
-pub length-one : (n : ℕ) → n < 10 → length (decimal n) ≡ 1
+length-one : (n : ℕ) → n < 10 → length (decimal n) ≡ 1
 length-one n h = ap length (decimal-one n h)
 
-pub length-more : (n : ℕ) → 10 ≤ n → length (decimal n) ≡ length (decimal (n / 10)) + 1
+length-more : (n : ℕ) → 10 ≤ n → length (decimal n) ≡ length (decimal (n / 10)) + 1
 length-more n h = ap length (decimal-more n h) ∙ length-append (decimal (n / 10)) ((48 + n % 10) ∷ [])
 
 -- a number below 10 ^ k has at most k digits

@@ -1,11 +1,11 @@
--- `text::put::number_at` meets its contract. Assumes nothing.
+-- `words::number_at` meets its contract. Assumes nothing.
 use mathlib.Core.Path.{sym}
 use lib.ListN.{List·getD-eq-default}
 use borrow.Author.Needs.{needs}
-use Rattle.text.proofs.put.number_at.Statement.{statement}
-use Rattle.text.proofs.put.number_at.Tie as tie
-use Rattle.text.proofs.put.number_at.Reads as reads
-use Rattle.text.proofs.put.number_at.Lts as lts
+use Rattle.words.proofs.number_at.Statement.{statement}
+use Rattle.words.proofs.number_at.Tie as tie
+use Rattle.words.proofs.number_at.Reads as reads
+use Rattle.words.proofs.number_at.Lts as lts
 
 mul-result : tie.Need-mul-result
 mul-result c = search needs

@@ -1,22 +1,31 @@
-// Text put into a buffer from a place on: each function returns the place behind what it put.
+// Text put into a buffer from a place on: each function returns the place behind what it put. What has no room behind the place is left out.
 ghost use mathlib.Core.Path.{_≡_};
-ghost use Prim.Native.Nat.{_+_, _≤_};
-ghost use lib.ListN.{length, getD};
-ghost use Rattle.text.specs.Words.{decimal, spelled, taken, filled};
-ghost use Rattle.text.specs.Put.{Put};
+ghost use mathlib.Core.List.{[], _∷_};
+ghost use Prim.Native.Nat.{_≤_};
+ghost use lib.ListN.{getD};
+ghost use Rattle.ground.specs.Outcome.{Is};
+ghost use Rattle.words.specs.Words.{decimal, spelled, taken, filled, put};
+
+// One byte.
+fn byte(out: &mut [u8], at: usize, b: u8) -> usize
+    ensures { λ r. ⌜ Is (put (now (out .entry)) at (b ∷ [])) r (now (out .exit)) ⌝ }
+{
+    if at < out.len() {
+        out[at] = b;
+        return at + 1;
+    }
+    at
+}
 
 // A number in decimal: the digits of its tenth, where there are any, and then its last digit.
 fn number(out: &mut [u8], at: usize, v: u32) -> usize
-    requires { ⌜ at + length (decimal v) ≤ length (now out) ⌝ }
-    ensures { λ r. ⌜ Put (now (out .entry)) at (decimal v) (now (out .exit)) r ⌝ }
+    ensures { λ r. ⌜ Is (put (now (out .entry)) at (decimal v)) r (now (out .exit)) ⌝ }
 {
     if v < 10 {
-        out[at] = 48 + v as u8;
-        return at + 1;
+        return byte(out, at, 48 + v as u8);
     }
     let to = number(out, at, v / 10);
-    out[to] = 48 + (v % 10) as u8;
-    to + 1
+    byte(out, to, 48 + (v % 10) as u8)
 }
 
 // The number at a place, and 0 past the end.
@@ -31,14 +40,12 @@ fn number_at(numbers: &[u32], n: usize) -> u32
 
 // One sign of a text: a number where it is #, and else itself.
 fn sign(out: &mut [u8], at: usize, c: u8, v: u32) -> usize
-    requires { ⌜ at + length (spelled c v) ≤ length (now out) ⌝ }
-    ensures { λ r. ⌜ Put (now (out .entry)) at (spelled c v) (now (out .exit)) r ⌝ }
+    ensures { λ r. ⌜ Is (put (now (out .entry)) at (spelled c v)) r (now (out .exit)) ⌝ }
 {
     if c == b'#' {
         return number(out, at, v);
     }
-    out[at] = c;
-    at + 1
+    byte(out, at, c)
 }
 
 // How many numbers a sign takes.
@@ -53,8 +60,7 @@ fn takes(c: u8) -> usize
 
 // A text with numbers: the sign # stands for the next number.
 pub fn line(out: &mut [u8], at: usize, text: &[u8], numbers: &[u32]) -> usize
-    requires { ⌜ at + length (filled (now text) (now numbers)) ≤ length (now out) ⌝ }
-    ensures { λ r. ⌜ Put (now (out .entry)) at (filled (now (text .entry)) (now (numbers .entry))) (now (out .exit)) r ⌝ }
+    ensures { λ r. ⌜ Is (put (now (out .entry)) at (filled (now (text .entry)) (now (numbers .entry)))) r (now (out .exit)) ⌝ }
 {
     let mut to = at;
     let mut n: usize = 0;

@@ -1,11 +1,11 @@
--- `text::put::takes` meets its contract. Assumes nothing.
+-- `words::takes` meets its contract. Assumes nothing.
 use mathlib.Core.Path.{sym}
 use borrow.Author.Needs.{needs}
-use Rattle.text.proofs.Filled.{takes-one, takes-none}
-use Rattle.text.proofs.put.takes.Statement.{statement}
-use Rattle.text.proofs.put.takes.Tie as tie
-use Rattle.text.proofs.put.takes.Reads as reads
-use Rattle.text.proofs.put.takes.Lts as lts
+use Rattle.words.proofs.Filled.{takes-one, takes-none}
+use Rattle.words.proofs.takes.Statement.{statement}
+use Rattle.words.proofs.takes.Tie as tie
+use Rattle.words.proofs.takes.Reads as reads
+use Rattle.words.proofs.takes.Lts as lts
 
 returns : tie.Need-returns
 returns c = (sym (takes-one (c .before .args .c) (c .if1 .taken)), search needs)

@@ -1,0 +1,5 @@
+pub mod Puts
+pub mod Decimal
+pub mod Filled
+pub mod Room
+pub mod Agree
