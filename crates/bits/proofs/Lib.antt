@@ -3,7 +3,6 @@ pub mod Lists
 pub mod Places
 pub mod Joined
 pub mod Numbers
-pub mod Stores
 pub mod Widens
 pub mod Sums
 pub mod Agree

@@ -1,6 +1,6 @@
 -- Laws of bits, num, unpack and pack.
 -- Assumes nothing.
-use Prim.Native.Nat.{ℕ, zero, suc, _+_, _-_, _*_, _/_, _%_, _^_, _≤_, _<_}
+use Prim.Native.Nat.{ℕ, zero, suc, _+_, _*_, _/_, _%_, _^_, _≤_, _<_}
 use mathlib.Core.Path.{_≡_, refl, sym, ap, ap₂, _∙_}
 use mathlib.Core.List.{List, [], _∷_, _++_}
 use native.Mathlib.Nat.{pow-suc, mul-assoc, mul-comm, add-mul, mul-add-mod-self-right, mul-add-div-right, mod-eq-of-lt, mod-one, zero-mul, lt-of-lt-of-le}
@@ -70,10 +70,6 @@ pub num-more : (b : List ℕ) (at i : ℕ) → at + i < length b → num (take (
 num-more b at i h =
     let l : i < length (drop at b) = rw length-drop (omega arith) in
     rw (add-one, take-suc (drop at b) i 0 l, num-snoc, getD-drop)
-
-pub num-part-lt : (k i : ℕ) (b : List ℕ) (at : ℕ) → i ≤ k → Below 2 b → num (take i (drop at b)) < 2 ^ k
-num-part-lt k i b at h m =
-    lt-of-lt-of-le (num-lt (take i (drop at b)) (below-take 2 i (drop at b) (below-drop 2 at b m))) (pow-mono {j = k} (rw length-take (omega arith)))
 
 pub unpack-length : (w : List ℕ) → length (unpack w) ≡ 8 * length w
 unfolding unpack

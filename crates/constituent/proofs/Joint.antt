@@ -1,16 +1,15 @@
 -- Six bit periods are linear in the number that holds the six bits of both encoders and their registers.
 -- Assumes nothing.
-use Prim.Native.Nat.{ℕ, zero, suc, _+_, _-_, _*_, _/_, _%_, _^_, _≤_, _<_}
+use Prim.Native.Nat.{ℕ, _+_, _-_, _*_, _/_, _%_, _^_, _≤_, _<_}
 use mathlib.Core.Path.{_≡_, refl, sym, ap, ap₂, _∙_, subst}
 use mathlib.Core.Bool.{Bool, true, false}
-use mathlib.Core.List.{List, [], _∷_}
-use native.Mathlib.Nat.{zero-add, add-zero, mul-assoc, mul-comm, one-mul, mul-zero, zero-mul}
+use mathlib.Core.List.{List}
+use native.Mathlib.Nat.{zero-add, add-zero, zero-mul}
 use native.Mathlib.Decide.{decLt}
 use native.Mathlib.Omega.{arith}
-use lib.Bits.{bitXor}
 use lib.Dec.{ltb}
 use lib.ListN.{length, getD}
-use lib.Pow.{pow-add, pow-pos, high, low, shr-shr, field, mod-mod-pow, shl-shr, pow-mono}
+use lib.Pow.{pow-pos, high, low, shr-shr, field, mod-mod-pow, shl-shr}
 use borrow.Author.Tests.{lt-ltb, le-ltb}
 use Rattle.ground.specs.Choice.{choose}
 use Rattle.ground.proofs.Choice.{choose-true, choose-false}

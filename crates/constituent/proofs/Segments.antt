@@ -2,10 +2,9 @@
 -- Assumes nothing.
 use Prim.Native.Nat.{ℕ, zero, suc, _+_, _-_, _*_, _/_, _%_, _^_, _≤_, _<_}
 use mathlib.Core.Path.{_≡_, refl, sym, ap, ap₂, _∙_, subst}
-use mathlib.Core.List.{List}
-use native.Mathlib.Nat.{zero-add, add-zero, add-suc, add-assoc, add-mul, mul-assoc, mul-one, one-mul, zero-mul, mul-zero, mul-comm, pow-suc, suc-mul, not-suc-le-zero, mul-le-mul-left, mul-le-mul-right}
+use native.Mathlib.Nat.{zero-add, add-zero, add-suc, add-assoc, add-mul, mul-assoc, mul-one, one-mul, zero-mul, mul-comm, pow-suc, suc-mul, mul-le-mul-left, mul-le-mul-right}
 use native.Mathlib.Numerals.{add-one}
-use native.Mathlib.Decide.{decLt, ℕ-discrete}
+use native.Mathlib.Decide.{ℕ-discrete}
 use native.Mathlib.Omega.{arith}
 use lib.Bits.{bitXor}
 use lib.Pow.{pow-add, pow-pos, suc-ones}

@@ -1,6 +1,6 @@
 -- A changed single bit changes the CRC: with the data bit, a clock loses nothing of the register, since the polynomial has the term 1.
 -- Assumes nothing.
-use Prim.Native.Nat.{ℕ, zero, suc, _+_, _-_, _*_, _/_, _%_, _^_, _≤_, _<_}
+use Prim.Native.Nat.{ℕ, zero, suc, _+_, _-_, _*_, _/_, _%_, _^_, _<_}
 use mathlib.Core.Path.{_≡_, refl, sym, ap, ap₂, _∙_}
 use mathlib.Core.List.{List, [], _∷_}
 use native.Mathlib.Nat.{zero-mul, one-mul, div-lt-iff-lt-mul, div-add-mod', not-suc-le-zero}

@@ -1,13 +1,13 @@
 -- Laws of a copy from the front: the first i entries are those of the source, the rest is as before. (A copy to another place is `lib.Seq`'s `paste`.)
 -- Assumes nothing.
 use mathlib.Core.Path.{_≡_, sym, ap, ap₂, _∙_}
-use mathlib.Core.List.{List, [], _∷_, _++_, append-nil, append-assoc}
+use mathlib.Core.List.{List, _++_, append-nil}
 use Prim.Native.Nat.{ℕ, suc, _+_, _≤_, _<_}
-use native.Mathlib.Nat.{zero-add, add-assoc, le-of-eq}
+use native.Mathlib.Nat.{zero-add, le-of-eq}
 use native.Mathlib.Numerals.{add-one}
 use native.Mathlib.Omega.{arith}
 use lib.ListN.{length, getD, take, drop, set, drop-of-length-le}
-use lib.Seq.{paste, paste-suc, length-paste, take-paste, drop-paste, take-all, take-at, take-add, drop-at, drop-drop}
+use lib.Seq.{paste, paste-suc, length-paste, take-all, take-at, drop-at, drop-drop}
 
 module _ {A : Type 0} where
   abbrev pub over : List A → List A → ℕ → List A
@@ -35,15 +35,3 @@ module _ {A : Type 0} where
       let e : drop (n + m) (a ++ drop n d) ≡ drop (n + m) d =
       sym (drop-drop m n (a ++ drop n d)) ∙ ap (drop m) (drop-at a (drop n d) n h) ∙ drop-drop m n d in
       rw (take-at a (drop n d) n h, take-all m x (le-of-eq k), e)
-
-  -- a copy that goes on: m entries more
-  pub paste-more : (d : List A) (at : ℕ) (s y : List A) (j m : ℕ) → at + j ≤ length d → j ≤ length s → take m y ≡ take m (drop j s)
-      → paste (paste d at s j) (at + j) y m ≡ paste d at s (j + m)
-  paste-more d at s y j m hd hs e =
-      let o : List A = paste d at s j in
-      let h : take (at + j) o ≡ take at d ++ take j s = take-paste d at s j (omega arith) hs in
-      let r : drop (at + j + m) o ≡ drop (at + (j + m)) d =
-      sym (drop-drop m (at + j) o) ∙ ap (drop m) (drop-paste d at s j (omega arith) hs) ∙ drop-drop m (at + j) d ∙ ap (λ (k : ℕ). drop k d) (add-assoc at j m) in
-      ap₂ (λ (x z : List A). x ++ z)
-      (ap₂ (λ (x z : List A). x ++ z) h e ∙ append-assoc (take at d) (take j s) (take m (drop j s)) ∙ ap (λ (x : List A). take at d ++ x) (sym (take-add j m s)))
-      r

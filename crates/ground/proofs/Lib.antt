@@ -3,7 +3,6 @@ pub mod Choice
 pub mod Refusing
 pub mod Table
 pub mod Copy
-pub mod Repeat
 pub mod Fill
 pub mod Faults
 pub mod Answers

@@ -10,8 +10,7 @@ use native.Mathlib.Decide.{decLt}
 use native.Mathlib.Omega.{arith}
 use lib.Dec.{leb}
 use lib.ListN.{length, getD, set, replicate, length-set, getD-replicate}
-use borrow.Author.Tests.{eq-eqb, ne-eqb, le-leb, lt-leb}
-use Rattle.ground.proofs.Choice.{choose-true, choose-false}
+use borrow.Author.Tests.{le-leb, lt-leb}
 use Rattle.ground.proofs.Fill.{fill-more}
 use Rattle.bits.specs.Places.{number}
 use Rattle.bits.specs.Held.{placeOf, Held, Put}

@@ -1,18 +1,18 @@
 -- What functions inside this crate ask and promise; no public promise cites it.
 -- Assumes nothing.
-use Prim.Native.Nat.{ℕ, zero, suc, _+_, _*_, _/_, _%_, _^_, _≤_, _<_}
+use Prim.Native.Nat.{ℕ, _+_, _*_, _/_, _%_, _^_, _≤_, _<_}
 use mathlib.Core.Path.{_≡_}
 use mathlib.Core.Bool.{Bool}
 use mathlib.Core.List.{List}
 use lib.Dec.{ltb, leb, eqb}
 use lib.ListN.{length, getD}
 use Rattle.ground.specs.Choice.{choose}
-use Rattle.bits.specs.Places.{bitAt, number}
+use Rattle.bits.specs.Places.{number}
 use Rattle.bits.specs.Held.{placeOf, Held}
 use Rattle.bits.specs.declared.wide.Wide.{Wide}
 use Rattle.pairs.specs.Pairs.{Paired}
 use Rattle.rows.specs.Spelt.{rowPair}
-use Rattle.order.specs.Order.{parameter, reversed, address, kept, order}
+use Rattle.order.specs.Order.{parameter, address, kept, order}
 use Rattle.order.specs.Rows.{rowAddress, column}
 
 -- half the rows of a block of N bits

@@ -23,7 +23,7 @@ ghost use Rattle.interleaver.specs.Inside.{
 fn half_of(n: usize) -> usize
     ensures { λ r. ⌜ r ≡ halfOf n ⌝ }
 {
-    if n == 12282 { 256 } else { 16 }
+    if n == ground::PAYLOAD_BLOCK { 256 } else { 16 }
 }
 
 // Whether the last column but one of the row j is left out: its address is behind the block.
@@ -31,7 +31,7 @@ fn is_short(n: usize, j: usize) -> bool
     requires { ⌜ Block n × (j ≤ 512) ⌝ }
     ensures { λ r. ⌜ r ≡ shortAt n j ⌝ }
 {
-    if n == 12282 {
+    if n == ground::PAYLOAD_BLOCK {
         506 <= j * 313 % 512
     } else {
         26 <= j % 32

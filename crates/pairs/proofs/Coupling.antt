@@ -7,7 +7,6 @@ use native.Mathlib.Nat.{zero-add, mod-lt, mod-eq-of-lt, div-eq-of-lt, add-mul-di
 use native.Mathlib.Decide.{decLt}
 use native.Mathlib.Omega.{arith}
 use lib.ListN.{length, getD, List·getD-eq-default}
-use Rattle.ground.specs.Table.{tab}
 use Rattle.ground.proofs.Table.{length-tab, getD-tab, tab-ext}
 use Rattle.bits.specs.Places.{bitAt}
 use Rattle.bits.proofs.Places.{bit-lt}

@@ -13,7 +13,7 @@ fn block_of(word: &[u8]) -> [u8; 1536]
 {
     let mut block = [0u8; 1536];
     let mut i = 0;
-    while i < 1536 && i < word.len() {
+    while i < ground::PAYLOAD_WORD && i < word.len() {
         block[i] = word[i];
         i += 1;
     }

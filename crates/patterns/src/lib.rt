@@ -1,6 +1,11 @@
 // The puncturing patterns of the turbo code.
 pub mod rows;
 
+use ground::LENGTH_WRONG;
+use ground::PATTERN_ABOVE_27;
+use ground::PATTERN_NOT_0;
+use ground::PAYLOAD_BLOCK;
+use ground::SIGNALLING_BLOCK;
 ghost use mathlib.Core.Path.{_≡_};
 ghost use lib.Dec.{ltb};
 ghost use Rattle.ground.specs.Choice.{choose, firstOf};
@@ -54,7 +59,7 @@ pub fn units(pattern: usize) -> u8
 pub fn code_length(pattern: usize, n: usize) -> usize
     ensures { λ r. ⌜ r ≡ choose (ltb 12282 n) 0 (codeLength pattern n) ⌝ }
 {
-    if n <= 12282 {
+    if n <= PAYLOAD_BLOCK {
         return (n + 6) * units(pattern) as usize / 6;
     }
     0
@@ -65,10 +70,10 @@ pub fn block_by(payload: usize, signalling: usize, len: usize) -> usize
     ensures { λ r. ⌜ r ≡ blockBy payload signalling len ⌝ }
 {
     if len == payload {
-        return 12282;
+        return PAYLOAD_BLOCK;
     }
     if len == signalling {
-        return 762;
+        return SIGNALLING_BLOCK;
     }
     0
 }
@@ -77,7 +82,11 @@ pub fn block_by(payload: usize, signalling: usize, len: usize) -> usize
 fn unpaired(pattern: usize, n: usize) -> bool
     ensures { λ r. ⌜ r ≡ unpaired pattern n ⌝ }
 {
-    if n == 762 { 0 < pattern } else { false }
+    if n == SIGNALLING_BLOCK {
+        0 < pattern
+    } else {
+        false
+    }
 }
 
 // Why a block of n bits is not coded under a pattern: 1 where there is no block, 3 for a number above 27, 4 for the block of 762 bits with a pattern other than 0; 0 if it is.
@@ -87,13 +96,13 @@ pub fn unfit(pattern: usize, n: usize) -> u8
     let unknown = 27 < pattern;
     let other = unpaired(pattern, n);
     if n == 0 {
-        return 1;
+        return LENGTH_WRONG;
     }
     if unknown {
-        return 3;
+        return PATTERN_ABOVE_27;
     }
     if other {
-        return 4;
+        return PATTERN_NOT_0;
     }
     0
 }

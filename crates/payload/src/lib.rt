@@ -2,6 +2,18 @@
 mod packet;
 mod suffix;
 
+use crate::suffix::ENCAP_VER;
+use crate::suffix::HEADER_CRC;
+use crate::suffix::RFU;
+use crate::suffix::STREAM_ID;
+use crate::suffix::STREAM_TYPE;
+use ground::CRC_WRONG;
+use ground::ENCAP_NOT_0;
+use ground::LENGTH_WRONG;
+use ground::PAYLOAD_BLOCK;
+use ground::PAYLOAD_WORD;
+use ground::SPARE_SET;
+use ground::TYPE_UNKNOWN;
 ghost use mathlib.Core.Path.{_≡_};
 ghost use lib.ListN.{length};
 ghost use Rattle.ground.specs.Outcome.{Is};
@@ -12,6 +24,9 @@ pub enum Header {
     Fields { rfu: u32, id: u8, kind: u8 },
     Refused(u8),
 }
+
+// The bytes of a header as it is handed to C.
+const HEADER: usize = 16;
 
 // Writes the payload word of a stream type (0 with an empty payload, 1 with 1,532 bytes) into 1,536 bytes and returns 0; a refusal touches nothing.
 pub fn write(kind: u32, id: u8, payload: &[u8], word: &mut [u8]) -> u8
@@ -31,24 +46,24 @@ pub fn write(kind: u32, id: u8, payload: &[u8], word: &mut [u8]) -> u8
 fn read_refusal(word: &[u8]) -> u8
     ensures { λ r. ⌜ r ≡ readRefusal (now (word .entry)) ⌝ }
 {
-    if word.len() != 1536 {
-        return 1;
+    if word.len() != PAYLOAD_WORD {
+        return LENGTH_WRONG;
     }
     // the six spare bits (01)
-    if suffix::field(word, 12282, 6) != 0 {
-        return 2;
+    if suffix::field(word, PAYLOAD_BLOCK, 6) != 0 {
+        return SPARE_SET;
     }
     // HeaderCRC (tables 2 and 3)
-    if suffix::field(word, 12274, 8) != suffix::crc(word) {
-        return 5;
+    if suffix::field(word, HEADER_CRC, 8) != suffix::crc(word) {
+        return CRC_WRONG;
     }
     // Encap_Ver (tables 2 and 3)
-    if 0 < suffix::field(word, 12271, 3) {
-        return 16;
+    if 0 < suffix::field(word, ENCAP_VER, 3) {
+        return ENCAP_NOT_0;
     }
     // STS_Stream_Type_ID (tables 2 and 3)
-    if 1 < suffix::field(word, 12268, 3) {
-        return 15;
+    if 1 < suffix::field(word, STREAM_TYPE, 3) {
+        return TYPE_UNKNOWN;
     }
     0
 }
@@ -62,9 +77,9 @@ pub fn read(word: &[u8]) -> Header
         return Header::Refused(refusal);
     }
     // RFU, STS_ID and STS_Stream_Type_ID (tables 2 and 3)
-    let rfu = bits::field(word, 12256, 4);
-    let id = suffix::field(word, 12260, 8);
-    let kind = suffix::field(word, 12268, 3);
+    let rfu = bits::field(word, RFU, 4);
+    let id = suffix::field(word, STREAM_ID, 8);
+    let kind = suffix::field(word, STREAM_TYPE, 3);
     Header::Fields { rfu, id, kind }
 }
 
@@ -101,8 +116,8 @@ fn put_header(out: &mut [u8], rfu: u32, id: u8, kind: u8)
 pub fn read_into(word: &[u8], header: &mut [u8]) -> u8
     ensures { λ r. ⌜ Is (readInto (now (word .entry)) (now (header .entry))) r (now (header .exit)) ⌝ }
 {
-    if header.len() != 16 {
-        return 1;
+    if header.len() != HEADER {
+        return LENGTH_WRONG;
     }
     let h = read(word);
     match h {

@@ -6,12 +6,15 @@ ghost use lib.ListN.{length, getD, drop};
 ghost use Rattle.payload.specs.Word.{packetBytes, filled};
 ghost use Rattle.payload.specs.Answers.{writeRefusal};
 
+// The bytes before the header.
+pub const PACKET: usize = 1532;
+
 // How many bytes the payload packet of a stream type has.
 pub fn bytes(kind: u32) -> usize
     ensures { λ r. ⌜ (r ≡ packetBytes kind) × (r ≤ 1532) ⌝ }
 {
     if kind == 1 {
-        return 1532;
+        return PACKET;
     }
     0
 }
@@ -21,13 +24,13 @@ pub fn refusal(kind: u32, packet: usize, word: usize) -> u8
     ensures { λ r. ⌜ r ≡ writeRefusal kind packet word ⌝ }
 {
     if 1 < kind {
-        return 15;
+        return ground::TYPE_UNKNOWN;
     }
     if packet != bytes(kind) {
-        return 1;
+        return ground::LENGTH_WRONG;
     }
-    if word != 1536 {
-        return 1;
+    if word != ground::PAYLOAD_WORD {
+        return ground::LENGTH_WRONG;
     }
     0
 }
@@ -48,7 +51,7 @@ pub fn fill(packet: &[u8], word: &mut [u8])
     ensures { λ _. ⌜ now (word .exit) ≡ filled (now (packet .entry)) ++ drop 1532 (now (word .entry)) ⌝ }
 {
     let mut i = 0;
-    while i < 1532 {
+    while i < PACKET {
         word[i] = byte(packet, i);
         i += 1;
     }

@@ -1,4 +1,5 @@
 // What ends every payload word, whatever its stream type: the header's fields, the CRC over it, and six spare bits.
+use crate::packet::PACKET;
 ghost use mathlib.Core.Path.{_≡_};
 ghost use mathlib.Core.List.{_++_};
 ghost use Prim.Native.Nat.{_+_, _^_, _≤_, _<_};
@@ -7,6 +8,17 @@ ghost use Rattle.bits.specs.Lists.{bits, pack};
 ghost use Rattle.bits.specs.Places.{fieldAt};
 ghost use Rattle.payload.specs.Suffix.{coveredOf, headerCrc};
 ghost use Rattle.payload.specs.Steps.{sealed};
+
+// Where the header's fields stand (tables 2 and 3), in bits.
+pub const RFU: usize = 12256;
+
+pub const STREAM_ID: usize = 12260;
+
+pub const STREAM_TYPE: usize = 12268;
+
+pub const ENCAP_VER: usize = 12271;
+
+pub const HEADER_CRC: usize = 12274;
 
 // A field of at most eight bits.
 pub fn field(word: &[u8], at: usize, n: usize) -> u8
@@ -21,7 +33,7 @@ pub fn crc(word: &[u8]) -> u8
     ensures { λ r. ⌜ r ≡ headerCrc (coveredOf (now (word .entry))) ⌝ }
 {
     // RFU to Encap_Ver (tables 2 and 3)
-    crc::crc8(word, 12256, 18)
+    crc::crc8(word, RFU, 18)
 }
 
 // A 32-bit number into the four bytes at a place.
@@ -41,8 +53,8 @@ pub fn close(word: &mut [u8], head: u32)
     ensures { λ _. ⌜ now (word .exit) ≡ sealed (take 1532 (now (word .entry))) (bits 18 head) ⌝ }
 {
     // RFU to Encap_Ver, and zeros behind them
-    put32(word, 1532, head * 0x4000);
+    put32(word, PACKET, head * 0x4000);
     let crc = crc(word);
     // the same with HeaderCRC
-    put32(word, 1532, head * 0x4000 + crc as u32 * 0x40);
+    put32(word, PACKET, head * 0x4000 + crc as u32 * 0x40);
 }

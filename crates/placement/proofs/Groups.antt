@@ -1,6 +1,6 @@
 -- Laws of placement by groups: one symbol more, and one group more of a lane.
 -- Assumes nothing.
-use Prim.Native.Nat.{ℕ, zero, suc, _+_, _-_, _*_, _≤_, _<_}
+use Prim.Native.Nat.{ℕ, zero, suc, _+_, _*_, _≤_, _<_}
 use mathlib.Core.Path.{_≡_, refl, sym, ap, ap₂, _∙_, subst, subst₂}
 use mathlib.Core.List.{List}
 use native.Mathlib.Nat.{add-zero, add-assoc}

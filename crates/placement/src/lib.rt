@@ -65,18 +65,23 @@ fn place_all(pattern: usize, n: usize, values: &[i8], lane: &mut [i16])
     }
 }
 
+// The places of the two lanes (01): 5 x (N + 6).
+const PAYLOAD_LANE: usize = 61440;
+
+const SIGNALLING_LANE: usize = 3840;
+
 // Places one value for each code bit into the lent lane and returns 0; or returns why not, and leaves the lane as it was.
 pub fn place(pattern: u32, values: &[i8], lane: &mut [i16]) -> u8
     ensures { λ r. ⌜ Is (placing pattern (now (values .entry)) (now (lane .entry))) r (now (lane .exit)) ⌝ }
 {
     let p = pattern as usize;
-    let n = patterns::block_by(61440, 3840, lane.len());
+    let n = patterns::block_by(PAYLOAD_LANE, SIGNALLING_LANE, lane.len());
     let unfit = patterns::unfit(p, n);
     if unfit != 0 {
         return unfit;
     }
     if values.len() != patterns::code_length(p, n) {
-        return 1;
+        return ground::LENGTH_WRONG;
     }
     place_all(p, n, values, lane);
     0

@@ -75,7 +75,7 @@ pub fn rows_of(n: usize, d: &[u8], j: usize) -> u64
     if 512 <= j {
         return 0;
     }
-    if n == 12282 {
+    if n == ground::PAYLOAD_BLOCK {
         if d.len() == 12288 {
             return two(
                 six(d, 512, j, 0, 13, 335, 87, 15, 1, 333),

@@ -1,10 +1,9 @@
 -- Laws of a pattern's tables: twice as many entries, six bits, three tables, both halves.
 -- Assumes nothing.
-use Prim.Native.Nat.{ℕ, zero, suc, _+_, _-_, _*_, _/_, _%_, _^_, _≤_, _<_}
+use Prim.Native.Nat.{ℕ, _+_, _-_, _*_, _/_, _%_, _^_, _≤_, _<_}
 use mathlib.Core.Path.{_≡_, refl, sym, ap, ap₂, _∙_, subst}
 use mathlib.Core.List.{List}
-use native.Mathlib.Nat.{zero-add, add-zero, zero-mul, one-mul, mul-one, mul-assoc, mul-comm, add-mul, not-suc-le-zero, pow-suc}
-use native.Mathlib.Numerals.{add-one}
+use native.Mathlib.Nat.{zero-add, add-zero, zero-mul, one-mul, mul-comm, add-mul, not-suc-le-zero}
 use native.Mathlib.Decide.{decLt, ℕ-discrete}
 use native.Mathlib.Omega.{arith}
 use lib.Bits.{bitXor, xor-self, xor-comm}

@@ -3,8 +3,8 @@
 use Prim.Native.Nat.{ℕ, zero, suc, _+_, _-_, _*_, _/_, _%_, _^_, _≤_, _<_}
 use mathlib.Core.Path.{_≡_, refl, sym, ap, ap₂, _∙_, subst}
 use mathlib.Core.Bool.{Bool}
-use mathlib.Core.List.{List, [], _∷_}
-use native.Mathlib.Nat.{zero-add, add-zero, mul-one, not-suc-le-zero}
+use mathlib.Core.List.{List}
+use native.Mathlib.Nat.{add-zero, mul-one, not-suc-le-zero}
 use native.Mathlib.Omega.{arith}
 use lib.Bits.{bitXor}
 use lib.Dec.{T, leb, leb→le}
@@ -16,7 +16,7 @@ use Rattle.ground.specs.Table.{tab, allBelow}
 use Rattle.ground.proofs.Choice.{choose-true}
 use Rattle.ground.proofs.Table.{at-all}
 use Rattle.bits.specs.Places.{bitAt, number}
-use Rattle.bits.specs.Held.{placeOf, Held}
+use Rattle.bits.specs.Held.{placeOf}
 use Rattle.bits.proofs.Places.{bit-lt, number-lt, number-cong}
 use Rattle.bits.proofs.Widens.{wide-put}
 use Rattle.patterns.specs.Rows.{dataRows, tailRows, dataGroup, tailGroup, groupAt, digit, copies}
@@ -37,7 +37,7 @@ use Rattle.turbo.specs.Stream.{codeBit, told, chunked, thrice, both, Pre
 use Rattle.constituent.specs.declared.State.{State}
 use Rattle.turbo.specs.declared.stream.Coder.{Coder}
 use Rattle.constituent.proofs.Segments.{segment-cong, segment-append, segment-number, spread-number}
-use Rattle.constituent.proofs.Joint.{joint-lt, six-data, six-then, bit-mod, joins-apart}
+use Rattle.constituent.proofs.Joint.{six-data, six-then, bit-mod, joins-apart}
 use Rattle.tables.proofs.Weighing.{half-data, half-then, half-six, half-most}
 use Rattle.tables.proofs.Looking.{coded-sum, plan-at}
 use Rattle.turbo.proofs.Reading.{second-lt, six-bit, sixes, last-six}

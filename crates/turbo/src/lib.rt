@@ -1,6 +1,10 @@
 // The turbo encoder (clauses 4.4.2 to 4.4.5).
 mod stream;
 
+use ground::LENGTH_WRONG;
+use ground::PAYLOAD_WORD;
+use ground::SIGNALLING_WORD;
+use ground::SPARE_SET;
 ghost use mathlib.Core.Path.{_≡_};
 ghost use Prim.Native.Nat.{_≤_};
 ghost use Rattle.ground.specs.Choice.{firstOf};
@@ -17,10 +21,10 @@ fn refusal(pattern: usize, n: usize, word: &[u8], bytes: usize) -> u8
         return unfit;
     }
     if bytes != patterns::code_length(pattern, n) / 8 {
-        return 1;
+        return LENGTH_WRONG;
     }
     if bits::field(word, n, 6) != 0 {
-        return 2;
+        return SPARE_SET;
     }
     0
 }
@@ -30,7 +34,7 @@ pub fn encode(pattern: u32, infoword: &[u8], codeword: &mut [u8]) -> u8
     ensures { λ r. ⌜ Is (encoded pattern (now (infoword .entry)) (now (codeword .entry))) r (now (codeword .exit)) ⌝ }
 {
     let p = pattern as usize;
-    let n = patterns::block_by(1536, 96, infoword.len());
+    let n = patterns::block_by(PAYLOAD_WORD, SIGNALLING_WORD, infoword.len());
     let r = refusal(p, n, infoword, codeword.len());
     if r != 0 {
         return r;

@@ -1,6 +1,6 @@
 -- `tables::look::copy_half` meets its contract. Assumes nothing.
-use Prim.Native.Nat.{ℕ, _-_, _≤_}
-use mathlib.Core.Path.{_≡_, subst}
+use Prim.Native.Nat.{_-_, _≤_}
+use mathlib.Core.Path.{subst}
 use native.Mathlib.Omega.{arith}
 use Rattle.tables.specs.Tables.{Copied}
 use Rattle.tables.proofs.Looking.{copied-none, copied-more}

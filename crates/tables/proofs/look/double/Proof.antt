@@ -1,5 +1,5 @@
 -- `tables::look::double` meets its contract. Assumes nothing.
-use Prim.Native.Nat.{ℕ, _-_}
+use Prim.Native.Nat.{_-_}
 use native.Mathlib.Omega.{arith}
 use Rattle.tables.proofs.Looking.{Doubling, doubling-none, doubling-more, doubling-all}
 use borrow.Author.Needs.{needs}

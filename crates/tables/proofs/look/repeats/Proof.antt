@@ -1,12 +1,11 @@
 -- `tables::look::repeats` meets its contract. Assumes nothing.
-use Prim.Native.Nat.{ℕ, _-_, _≤_}
+use Prim.Native.Nat.{_-_, _≤_}
 use mathlib.Core.Path.{_≡_, subst}
 use mathlib.Core.Bool.{Bool, true, false, not}
 use native.Mathlib.Nat.{not-suc-le-zero}
 use native.Mathlib.Omega.{arith}
 use lib.Dec.{T}
 use denote.Ref.{now}
-use Rattle.tables.specs.Tables.{Repeats}
 use Rattle.tables.proofs.Looking.{Repeating, repeating-more}
 use borrow.Author.Needs.{needs}
 use Rattle.tables.proofs.look.repeats.Statement.{statement}

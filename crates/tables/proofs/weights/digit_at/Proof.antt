@@ -1,10 +1,8 @@
 -- `tables::weights::digit_at` meets its contract. Assumes nothing.
-use Prim.Native.Nat.{ℕ, _+_, _*_, _/_, _%_, _≤_}
-use mathlib.Core.Path.{_≡_, sym, ap, _∙_, subst}
-use mathlib.Core.List.{List}
+use Prim.Native.Nat.{ℕ, _%_}
+use mathlib.Core.Path.{_≡_, sym, ap, _∙_}
 use native.Mathlib.Omega.{arith}
 use denote.Ref.{now}
-use lib.ListN.{getD}
 use Rattle.patterns.specs.Rows.{digit}
 use Rattle.constituent.specs.Segment.{digitAt}
 use Rattle.tables.specs.Plan.{halfAt}

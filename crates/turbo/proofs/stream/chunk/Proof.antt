@@ -1,6 +1,6 @@
 -- `turbo::stream::chunk` meets its contract. Assumes nothing.
 use Prim.Native.Nat.{ℕ, _%_}
-use mathlib.Core.Path.{_≡_, ap}
+use mathlib.Core.Path.{ap}
 use denote.Ref.{now}
 use Rattle.bits.specs.declared.wide.Wide.{Wide}
 use Rattle.turbo.specs.Stream.{told, chunked}
