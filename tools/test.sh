@@ -33,6 +33,9 @@ begin() {
 begin 'rt fmt --check'
 rt fmt --check
 
+# rt ci starts edits in batches and waits for the slowest of each: more of them than there are cores leave no core idle
+export RT_JOBS="${RT_JOBS:-6}"
+
 # rt ci removes target/ first, so what it says is kept outside until it is done
 begin 'rt ci'
 proved=0
