@@ -12,7 +12,7 @@ use Rattle.description.specs.Rows.{Each, total, Row}
 use Rattle.description.specs.Fields.{table16, pipeWidth, numSts1, numDisperserSections1}
 use Rattle.description.specs.Description.{Description, Lists, listsOf, streamsOf, sectionsOf, ownStreams, ownSections, tailOwns, streamCount, sectionCount}
 use Rattle.description.specs.Rules.{Keeps, size}
-use Rattle.description.specs.Sheet.{sheetEnd}
+use Rattle.description.specs.Bounds.{Bounds}
 use Rattle.description.proofs.Deal.{Counted, counted, records-length}
 use Rattle.description.proofs.Sound.{Sound}
 use Rattle.description.proofs.Keeps.{Clean, sized-keeps, sound-keeps, clean-keeps}
@@ -53,12 +53,6 @@ totals (f ∷ fs) h =
     let a = own-bounds f (h .0) in
     let b = totals fs (h .1) in
     (omega (arith, a .0, b .0), omega (arith, a .1, b .1), omega (arith, a .2, b .2), omega (arith, a .3, b .3))
-
-pub record Bounds (p s d : ℕ) : Type 0 where
-  pub pipes : p ≤ 14
-  pub streams : s ≤ 34
-  pub sections : d ≤ 32
-  pub bytes : sheetEnd 12 p s d ≤ 121
 
 -- numbers with these relations that fit into 750 bits
 pub within : (p s d : ℕ) → s ≤ 32 * p + 1 → s ≤ 32 * d + 1 → d ≤ 8 * p → d ≤ 8 * s → size p s d ≤ 750 → Bounds p s d

@@ -1,32 +1,32 @@
 -- Demand 3 over the definitions: a word is accepted exactly when some description that keeps the rules is written as it; there is then only one, and it is the one read.
 -- Assumes nothing.
 use Prim.Native.Nat.{ℕ, _≤_}
-use mathlib.Core.Path.{_≡_, refl, sym, ap, _∙_, subst}
+use mathlib.Core.Path.{_≡_, refl, sym, ap, ap₂, _∙_, subst}
 use mathlib.Core.Bool.{not}
-use mathlib.Core.List.{List, []}
+use mathlib.Core.List.{List, [], _∷_}
 use mathlib.Core.Logic.{_↔_}
 use native.Mathlib.Decide.{ℕ-discrete}
 use native.Mathlib.Omega.{arith}
 use lib.Dec.{eqb, ltb}
-use lib.ListN.{length}
+use lib.ListN.{length, length-append}
 use borrow.Author.Tests.{eq-eqb, ne-eqb, ltb-false, le-ltb}
 use Rattle.ground.specs.Outcome.{Told, Is, numberOf}
-use Rattle.ground.proofs.Outcome.{number-is}
 use Rattle.ground.specs.Choice.{either, refuse, firstOf}
 use Rattle.ground.proofs.Choice.{choose-true, choose-false, first-past, first-clear, no-difference, either-false, skip}
-use Rattle.ground.proofs.Answers.{verdict-number}
+use Rattle.ground.proofs.Answers.{verdict-number, verdict-accepted}
 use Rattle.bits.specs.Lists.{Below, unpack, pack}
-use Rattle.bits.proofs.Lists.{unpack-length, unpack-below, unpack-pack, pack-unpack}
-use Rattle.description.specs.Description.{Description, listsOf, describe}
+use Rattle.bits.proofs.Lists.{unpack-length, unpack-below, unpack-pack, pack-length, pack-unpack}
+use Rattle.description.specs.Description.{Description, Lists, streamsOf, sectionsOf, listsOf, describe}
 use Rattle.description.specs.Rules.{Keeps}
 use Rattle.description.specs.Layout.{body, padded, sealed, wordOf, layout}
 use Rattle.description.specs.Sheet.{sheetOf, sheet}
 use Rattle.description.specs.Word.{listsIn, wordFaults, readRefusal, front, surveyed, reading}
-use Rattle.description.proofs.Deal.{Counted, Sized, lists-describe, describe-lists, counted, sized}
+use Rattle.description.specs.Demand.{Demanded, countsOf, CountsTold}
+use Rattle.description.proofs.Deal.{Counted, Sized, records-length, lists-describe, describe-lists, counted, sized}
 use Rattle.description.proofs.Sound.{Sound}
 use Rattle.description.proofs.Keeps.{Clean, sized-keeps, sound-keeps, clean-keeps, keeps-clean}
 use Rattle.description.proofs.Word.{counted-in, sound-in}
-use Rattle.description.proofs.Sealed.{Passes, passes, passed, sealed-read, sealed-below, sealed-length, lists-sealed, passes-sealed}
+use Rattle.description.proofs.Sealed.{Passes, counts-in, passes, passed, sealed-read, sealed-below, sealed-length, lists-sealed, passes-sealed}
 
 -- what a word's bits describe
 unfoldable pub described : List ℕ → Description
@@ -105,19 +105,23 @@ lengths-known w out h =
     (no-difference (length w) 96 (e .0), ltb-false (length out) 128 (e .1), a .1)
 
 -- ---- demand 3
-module _ (w out : List ℕ) (bytes : Below 256 w) (n : length w ≡ 96) (room : 128 ≤ length out) where
-  -- accepted exactly when some description that keeps the rules is laid out as those 96 bytes
+pub layout-bytes : (d : Description) → length (layout d) ≡ 96
+unfolding layout wordOf
+layout-bytes d = pack-length 96 _
+
+module _ (w out : List ℕ) (bytes : Below 256 w) (room : 128 ≤ length out) where
+  -- accepted exactly when some description that keeps the rules is laid out as those bytes; a word of another length is refused, and no layout has it
   pub accepted-iff : (readRefusal w out ≡ 0) ↔ ((d : Description) × Keeps d × (layout d ≡ w))
   accepted-iff = (there, back)
     where
       there : readRefusal w out ≡ 0 → ((d : Description) × Keeps d × (layout d ≡ w))
       there r =
-          let h : firstOf (wordFaults (unpack w)) ≡ 0 = sym (lengths-right w out n room) ∙ r in
-          (described w, keeps-described w bytes n h, layout-described w bytes n h)
+          let k = lengths-known w out r in
+          (described w, keeps-described w bytes (k .0) (k .2), layout-described w bytes (k .0) (k .2))
 
       back : ((d : Description) × Keeps d × (layout d ≡ w)) → readRefusal w out ≡ 0
       back q =
-          lengths-right w out n room
+          lengths-right w out (ap length (sym (q .2)) ∙ layout-bytes (q .0)) room
           ∙ subst (λ (x : List ℕ). firstOf (wordFaults (unpack x)) ≡ 0) (q .2) (accepted-layout (q .0) (q .1))
 
 -- that description is the one read, so there is only one
@@ -133,17 +137,6 @@ unfolding sheet
 the-sheet w d k e = subst (λ (x : List ℕ). sheetOf (listsIn (unpack x)) ≡ sheetOf (listsOf d)) e (ap sheetOf (lists-layout d k))
 
 -- ---- demand 3 of an answer and of what was left in the room
-
--- what demand 3 asks of a reader's number and of its room afterwards, for the bytes w and the room out
-pub record Demanded (w out : List ℕ) (number : ℕ) (after : List ℕ) : Type 0 where
-  -- accepted exactly when some description that keeps the rules is laid out as those 96 bytes
-  pub accepts : (number ≡ 0) ↔ ((d : Description) × Keeps d × (layout d ≡ w))
-  -- there is then only one
-  pub only : (d e : Description) → Keeps d → Keeps e → layout d ≡ w → layout e ≡ w → d ≡ e
-  -- and the sheet handed out is its sheet, with the bytes past it as before
-  pub hands : (d : Description) → Keeps d → layout d ≡ w → after ≡ front (sheet d) out
-  -- a refused word leaves the room as it was
-  pub leaves : (number ≡ 0 → ⊥) → after ≡ out
 
 module _ (w out : List ℕ) where
   pub accepted-outcome : readRefusal w out ≡ 0 → (reading w out .answer .number ≡ 0) × (reading w out .memory ≡ front (sheetOf (listsIn (unpack w))) out)
@@ -164,19 +157,30 @@ module _ (w out : List ℕ) where
   pub number-zero : reading w out .answer .number ≡ 0 → readRefusal w out ≡ 0
   number-zero e = elim (ℕ-discrete (readRefusal w out) 0) [ yes z ↦ z | no h ↦ absurd (h (sym (refused-outcome h .0) ∙ e)) ]
 
-pub demanded-number : (w out : List ℕ) (r : ℕ) (after : List ℕ) → Below 256 w → length w ≡ 96 → 128 ≤ length out → Is (numberOf (reading w out)) r after
-    → Demanded w out r after
-demanded-number w out r after bytes n room p = record {
+pub demanded : (w out : List ℕ) (r : ℕ) (after : List ℕ) → Below 256 w → 128 ≤ length out → Is (numberOf (reading w out)) r after → Demanded w out r after
+demanded w out r after bytes room p = record {
   accepts = (
-    λ e. accepted-iff w out bytes n room .0 (number-zero w out (sym (p .answer) ∙ e)),
-    λ q. p .answer ∙ accepted-outcome w out (accepted-iff w out bytes n room .1 q) .0,
+    λ e. accepted-iff w out bytes room .0 (number-zero w out (sym (p .answer) ∙ e)),
+    λ q. p .answer ∙ accepted-outcome w out (accepted-iff w out bytes room .1 q) .0,
   );
   only = only-one w;
   hands = λ d k e.
-      p .memory ∙ accepted-outcome w out (accepted-iff w out bytes n room .1 (d, k, e)) .1 ∙ ap (λ (l : List ℕ). front l out) (the-sheet w d k e);
+      p .memory ∙ accepted-outcome w out (accepted-iff w out bytes room .1 (d, k, e)) .1 ∙ ap (λ (l : List ℕ). front l out) (the-sheet w d k e);
   leaves = λ h. p .memory ∙ refused-outcome w out (λ z. h (p .answer ∙ accepted-outcome w out z .0)) .1;
 }
 
-pub demanded : (w out : List ℕ) (t : Told) (after : List ℕ) → Below 256 w → length w ≡ 96 → 128 ≤ length out → Is (reading w out) t after
-    → Demanded w out (t .number) after
-demanded w out t after bytes n room p = demanded-number w out (t .number) after bytes n room (number-is p refl)
+-- the values told are the counts of the description's lists
+pub counts-lists : (d : Description) → length (listsOf d .pipes) ∷ length (listsOf d .streams) ∷ length (listsOf d .sections) ∷ [] ≡ countsOf d
+unfolding listsOf
+counts-lists d = ap₂ (λ (p s : ℕ). p ∷ s ∷ length (sectionsOf (d .pipes)) ∷ []) (records-length (d .pipes)) (length-append (streamsOf (d .pipes)) (d .tailStreams))
+
+pub counts-told : (w out : List ℕ) (t : Told) (after : List ℕ) → Below 256 w → 128 ≤ length out → Is (reading w out) t after → CountsTold w (t .values)
+unfolding reading surveyed
+counts-told w out t after bytes room p = λ d k e.
+    let z : readRefusal w out ≡ 0 = accepted-iff w out bytes room .1 (d, k, e) in
+    let o : reading w out ≡ record { answer = surveyed (unpack w); memory = front (sheetOf (listsIn (unpack w))) out } = choose-true _ _ (eq-eqb (readRefusal w out) 0 z) in
+    let b : List ℕ = unpack w in
+    let l : listsIn b ≡ listsOf d = subst (λ (x : List ℕ). listsIn (unpack x) ≡ listsOf d) e (lists-layout d k) in
+    ap (λ (x : Told). x .values) (p .answer ∙ ap (λ x. x .answer) o ∙ verdict-accepted (wordFaults b) _ (lengths-known w out z .2))
+    ∙ sym (counts-in (λ (x y v : ℕ). x ∷ y ∷ v ∷ []) b)
+    ∙ ap (λ (x : Lists). length (x .pipes) ∷ length (x .streams) ∷ length (x .sections) ∷ []) l ∙ counts-lists d

@@ -1,27 +1,33 @@
 -- The writer over the definitions: a sheet is accepted exactly when it is the sheet of some description that keeps the rules; there is then only one, and the 96 bytes are its layout.
 -- Assumes nothing.
-use Prim.Native.Nat.{ℕ}
+use Prim.Native.Nat.{ℕ, _<_}
 use mathlib.Core.Path.{_≡_, refl, sym, ap, _∙_, subst}
-use mathlib.Core.Bool.{not}
-use mathlib.Core.List.{List}
+use mathlib.Core.Bool.{Bool, true, false, not}
+use mathlib.Core.List.{List, [], _∷_}
 use mathlib.Core.Logic.{_↔_}
 use lib.Dec.{eqb}
-use lib.ListN.{length}
+use native.Mathlib.Omega.{arith}
+use lib.ListN.{length, getD}
 use borrow.Author.Tests.{eq-eqb, ne-eqb}
-use Rattle.ground.specs.Outcome.{Is}
-use Rattle.ground.specs.Choice.{refuse, firstOf}
+use Rattle.ground.specs.Outcome.{Told, Is}
+use Rattle.ground.specs.Choice.{refuse, firstOf, verdict}
 use Rattle.ground.proofs.Choice.{choose-true, choose-false, first-clear}
+use Rattle.ground.proofs.Answers.{refusedBy, verdict-number, verdict-accepted, verdict-refused}
 use Rattle.bits.specs.Lists.{Below}
+use Rattle.bits.proofs.Below.{below-get}
 use Rattle.description.specs.Description.{Description, listsOf, describe}
 use Rattle.description.specs.Rules.{Keeps}
 use Rattle.description.specs.Layout.{wordOf, layout}
-use Rattle.description.specs.Sheet.{sheetOf, sheet}
-use Rattle.description.specs.Form1.{listsStated, sheetFaults, writeRefusal, writing}
+use Rattle.description.specs.Sheet.{form1, header, sheetOf, sheet}
+use Rattle.description.specs.Form1.{listsStated, sheetFaults, checked, writeRefusal, writing}
+use Rattle.description.specs.Header.{pStated, sStated, dStated, headerFault}
+use Rattle.description.specs.Demand.{Wanted, Judged, countsOf}
+use Rattle.description.proofs.Demand.{counts-lists}
 use Rattle.description.proofs.Deal.{lists-describe, describe-lists, counted, sized}
 use Rattle.description.proofs.Sound.{Sound}
 use Rattle.description.proofs.Keeps.{Clean, sized-keeps, sound-keeps, clean-keeps, keeps-clean}
 use Rattle.description.proofs.Form1.{lists-sheet, accepted-sheet}
-use Rattle.description.proofs.Restated.{sound-stated, counted-stated, clean-stated, sheet-stated}
+use Rattle.description.proofs.Restated.{right-header, sound-stated, counted-stated, clean-stated, sheet-stated}
 
 -- what a sheet describes
 unfoldable pub stated : List ℕ → Description
@@ -91,17 +97,6 @@ one-stated sh d e k j p q = sym (the-stated sh d k p) ∙ the-stated sh e j q
 pub the-word : (sh : List ℕ) (d : Description) → Keeps d → sheet d ≡ sh → wordOf (listsStated sh) ≡ layout d
 the-word sh d k e = subst (λ (x : List ℕ). wordOf (listsStated x) ≡ layout d) e (word-of-sheet d k)
 
--- ---- what is asked of a writer's number and of the word afterwards, for the sheet sh and the 96 bytes word
-pub record Wanted (sh word : List ℕ) (number : ℕ) (after : List ℕ) : Type 0 where
-  -- accepted exactly when the sheet is that of some description that keeps the rules
-  pub accepts : (number ≡ 0) ↔ ((d : Description) × Keeps d × (sheet d ≡ sh))
-  -- there is then only one
-  pub only : (d e : Description) → Keeps d → Keeps e → sheet d ≡ sh → sheet e ≡ sh → d ≡ e
-  -- and the 96 bytes are its layout
-  pub lays : (d : Description) → Keeps d → sheet d ≡ sh → after ≡ layout d
-  -- a refused sheet leaves the word as it was
-  pub leaves : (number ≡ 0 → ⊥) → after ≡ word
-
 module _ (sh word : List ℕ) where
   -- the number is the refusal
   pub writing-number : writing sh word .answer ≡ writeRefusal sh word
@@ -129,3 +124,31 @@ wanted sh word r after bytes n p = record {
 
     zero : writeRefusal sh word ≡ 0 → r ≡ 0
     zero z = p .answer ∙ writing-number sh word ∙ z
+
+-- ---- the check
+pub judged : (sh : List ℕ) (t : Told) → Below 256 sh → t ≡ checked sh → Judged sh (t .number) (t .values)
+unfolding checked sheet sheetOf header
+judged sh t bytes e = record {
+  accepts = (
+    λ z. let h = sym zero ∙ z in (stated sh, keeps-stated sh h, sheet-of-stated sh h bytes),
+    λ q. zero ∙ subst (λ (x : List ℕ). firstOf (sheetFaults x) ≡ 0) (q .2) (clear-sheet (q .0) (q .1)),
+  );
+  counts = λ d k q.
+      let h : firstOf (sheetFaults sh) ≡ 0 = subst (λ (x : List ℕ). firstOf (sheetFaults x) ≡ 0) q (clear-sheet d k) in
+      ap (λ (x : Told). x .values) (e ∙ verdict-accepted (sheetFaults sh) _ h)
+      ∙ subst (λ (x : List ℕ). pStated x ∷ sStated x ∷ dStated x ∷ [] ≡ countsOf d) q (counts-lists d);
+}
+  where
+    zero : t .number ≡ firstOf (sheetFaults sh)
+    zero = ap (λ (x : Told). x .number) e ∙ verdict-number (sheetFaults sh) _
+
+-- a sheet of more than 2,571 bytes is refused with 12: each count is a byte, and no header of three bytes' counts states more
+pub long-refused : (sh : List ℕ) → Below 256 sh → 2571 < length sh → checked sh ≡ refusedBy 12
+unfolding checked sheetFaults
+long-refused sh bytes n = found (headerFault form1 sh) refl
+  where
+    found : (b : Bool) → headerFault form1 sh ≡ b → verdict (sheetFaults sh) (pStated sh ∷ sStated sh ∷ dStated sh ∷ []) ≡ refusedBy 12
+    found true e = verdict-refused (sheetFaults sh) _ (choose-true 12 _ e) (λ z. omega arith)
+    found false e =
+        let byte : (i : ℕ) → getD sh i 0 < 256 = λ i. below-get 256 sh i (omega arith) bytes in
+        absurd (omega (arith, right-header sh e .whole, byte 0, byte 1, byte 2))

@@ -19,15 +19,11 @@ use Rattle.description.specs.Rules.{Keeps}
 use Rattle.description.specs.Layout.{wordOf, layout}
 use Rattle.description.specs.Sheet.{form1, sheetEnd, header, sheetOf, sheet}
 use Rattle.description.specs.Word.{wordFaults, front, reading}
-use Rattle.description.specs.Header.{twoAt}
+use Rattle.description.specs.Demand.{sheetIn, WordBack, SheetBack, OneSheet}
 use Rattle.description.specs.Form1.{sheetFaults, writeRefusal, writing}
 use Rattle.description.proofs.Demand.{described, keeps-described, layout-described, accepted-layout, the-sheet, only-one, lengths-right, lengths-known, accepted-outcome, number-zero}
 use Rattle.description.proofs.Form1.{sheet-length}
 use Rattle.description.proofs.DemandWrite.{stated, keeps-stated, sheet-of-stated, clear-sheet, word-of-sheet, the-word, length-right, accepted-writing, writing-number}
-
--- the sheet at the front of a room: as many bytes as its header says
-abbrev pub sheetIn : List ℕ → List ℕ
-sheetIn room = take (twoAt room 10) room
 
 -- what the writer gives for an accepted sheet
 abbrev pub wrote : List ℕ → Outcome ℕ (List ℕ)
@@ -99,20 +95,20 @@ one-sheet sh sh' word word' b b' z z' e =
 
 -- ---- the same of any numbers and memory that these outcomes allow
 pub word-back : (w out room sh word after : List ℕ) (n m : ℕ) → Is (numberOf (reading w out)) n room → Is (writing sh word) m after
-    → Below 256 w → length word ≡ 96 → n ≡ 0 → sh ≡ sheetIn room → (m ≡ 0) × (after ≡ w)
+    → Below 256 w → length word ≡ 96 → WordBack w n room sh m after
 word-back w out room sh word after n m p q bytes k z e =
     let f : writing sh word ≡ wrote w =
     ap (λ (x : List ℕ). writing x word) (e ∙ ap sheetIn (p .memory)) ∙ write-after-read w out bytes (sym (p .answer) ∙ z) word k in
     (q .answer ∙ ap (λ o. o .answer) f, q .memory ∙ ap (λ o. o .memory) f)
 
 pub sheet-back : (sh word after w out room : List ℕ) (n m : ℕ) → Is (writing sh word) n after → Is (numberOf (reading w out)) m room
-    → Below 256 sh → 128 ≤ length out → n ≡ 0 → w ≡ after → (m ≡ 0) × (room ≡ front sh out)
+    → Below 256 sh → 128 ≤ length out → SheetBack sh n after w out m room
 sheet-back sh word after w out room n m p q bytes k z e =
     let f : w ≡ writing sh word .memory = e ∙ p .memory in
     let r = read-after-write sh word bytes (sym (p .answer) ∙ z) out k in
     (q .answer ∙ ap (λ (x : List ℕ). reading x out .answer .number) f ∙ r .0, q .memory ∙ ap (λ (x : List ℕ). reading x out .memory) f ∙ r .1)
 
 pub same-sheet : (sh sh' word word' after after' : List ℕ) (n n' : ℕ) → Is (writing sh word) n after → Is (writing sh' word') n' after'
-    → Below 256 sh → Below 256 sh' → n ≡ 0 → n' ≡ 0 → after ≡ after' → sh ≡ sh'
+    → Below 256 sh → Below 256 sh' → OneSheet sh n after sh' n' after'
 same-sheet sh sh' word word' after after' n n' p q b b' z z' e =
     one-sheet sh sh' word word' b b' (sym (p .answer) ∙ z) (sym (q .answer) ∙ z') (sym (p .memory) ∙ e ∙ q .memory)

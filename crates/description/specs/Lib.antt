@@ -8,3 +8,5 @@ pub mod Tests
 pub mod Word
 pub mod Header
 pub mod Form1
+pub mod Demand
+pub mod Bounds

@@ -30,4 +30,4 @@ module _ (κs : Lfts 1) (a : ArgsD record-fault.signature κs) where
 module _ (κs : Lfts 1) (a : ArgsD check.signature κs) where
   pub check-agrees : (r r′ : ResD check.signature κs) (s s′ : AtExit (endedOf 1 check-kinds.ps check-kinds.r) κs) →
       check-reads.Post κs a r s → check-reads.Post κs a r′ s′ → r ≡ r′
-  check-agrees r r′ s s′ p q = told-one r r′ (same p q)
+  check-agrees r r′ s s′ p q = told-one r r′ (same (p .0) (q .0))

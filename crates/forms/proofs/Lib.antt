@@ -2,3 +2,4 @@ pub mod Headers
 pub mod Counts
 pub mod Checked
 pub mod Agree
+pub mod Demand

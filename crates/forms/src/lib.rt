@@ -6,12 +6,13 @@ mod stated;
 use sheets::answer::Answer;
 use sheets::view::FORM1;
 ghost use mathlib.Core.Path.{_≡_};
+ghost use Rattle.bits.specs.Lists.{Below};
 ghost use Rattle.description.specs.Form1.{checked};
 ghost use Rattle.sheets.specs.Answers.{told};
 
 // Judges a sheet of form 1, of any length, in the order from sheet to word: 12 14 6 13 7 9 10 11.
 pub fn check(sheet: &[u8]) -> Answer
-    ensures { λ r. ⌜ told r ≡ checked (now (sheet .entry)) ⌝ }
+    ensures { λ r. ⌜ (told r ≡ checked (now (sheet .entry))) × Below 256 (now (sheet .entry)) ⌝ }
 {
     if stated::header_wrong(sheet, FORM1) {
         return Answer::Refused(ground::HEADER_WRONG);

@@ -23,15 +23,15 @@ pub opl-payload-back : (κs : Lfts 2) (a : ArgsD opl-payload-write.signature κs
     (s : AtExit (endedOf 2 opl-payload-write-kinds.ps opl-payload-write-kinds.r) κs)
     (κt : Lfts 2) (b : ArgsD opl-payload-read.signature κt) (n : ResD opl-payload-read.signature κt)
     (t : AtExit (endedOf 2 opl-payload-read-kinds.ps opl-payload-read-kinds.r) κt)
-    → opl-payload-write-reads.Post κs a r s → r ≡ 0 → a .1 .0 < 256
+    → opl-payload-write-reads.Post κs a r s → r ≡ 0
     → now (b .0) ≡ now (s .1 .1 .1 .0) → length (now (b .1 .0)) ≡ 16 → opl-payload-read-reads.Post κt b n t
     → (n ≡ 0) × (now (t .1 .0) ≡ headerBytes 0 (a .1 .0) (a .0) 0)
-opl-payload-back κs a r s κt b n t did zero byte e l p =
-    header-after (a .0) (a .1 .0) (now (a .1 .1 .0)) (now (a .1 .1 .1 .0)) (now (s .1 .1 .1 .0)) r did zero byte
+opl-payload-back κs a r s κt b n t did zero e l p =
+    header-after (a .0) (a .1 .0) (now (a .1 .1 .0)) (now (a .1 .1 .1 .0)) (now (s .1 .1 .1 .0)) r (did .0) zero (did .1)
     (now (b .0)) (now (b .1 .0)) (now (t .1 .0)) n e l p
 
 -- after such a call with type 1 the first 1,532 bytes of the word are the payload
 pub opl-payload-kept : (κs : Lfts 2) (a : ArgsD opl-payload-write.signature κs) (r : ResD opl-payload-write.signature κs)
     (s : AtExit (endedOf 2 opl-payload-write-kinds.ps opl-payload-write-kinds.r) κs)
     → opl-payload-write-reads.Post κs a r s → r ≡ 0 → a .0 ≡ 1 → take 1532 (now (s .1 .1 .1 .0)) ≡ now (a .1 .1 .0)
-opl-payload-kept κs a r s = packet-after (a .0) (a .1 .0) (now (a .1 .1 .0)) (now (a .1 .1 .1 .0)) (now (s .1 .1 .1 .0)) r
+opl-payload-kept κs a r s did = packet-after (a .0) (a .1 .0) (now (a .1 .1 .0)) (now (a .1 .1 .1 .0)) (now (s .1 .1 .1 .0)) r (did .0)

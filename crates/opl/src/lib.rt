@@ -1,7 +1,9 @@
 // The C face: exported functions on numbers and byte slices, each a call of the crate that does the work.
 // include/opl.h documents them for their callers.
 use sheets::answer::Answer;
+ghost use Prim.Native.Nat.{_<_};
 ghost use Rattle.ground.specs.Outcome.{Is, numberOf};
+ghost use Rattle.bits.specs.Lists.{Below};
 ghost use Rattle.description.specs.Word.{reading};
 ghost use Rattle.description.specs.Form1.{writing};
 ghost use Rattle.payload.specs.Answers.{written as payloadWritten, readInto};
@@ -20,7 +22,7 @@ pub extern "C" fn opl_preamble(out: &mut [u8]) -> u8
 // The signalling word of a sheet into 96 bytes.
 #[no_mangle]
 pub extern "C" fn opl_signalling_write(sheet: &[u8], word: &mut [u8]) -> u8
-    ensures { λ r. ⌜ Is (writing (now (sheet .entry)) (now (word .entry))) r (now (word .exit)) ⌝ }
+    ensures { λ r. ⌜ Is (writing (now (sheet .entry)) (now (word .entry))) r (now (word .exit)) × Below 256 (now (sheet .entry)) ⌝ }
 {
     to_word::write(sheet, word)
 }
@@ -28,7 +30,7 @@ pub extern "C" fn opl_signalling_write(sheet: &[u8], word: &mut [u8]) -> u8
 // A signalling word of 96 bytes read into the front of a sheet of 128 bytes or more.
 #[no_mangle]
 pub extern "C" fn opl_signalling_read(word: &[u8], sheet: &mut [u8]) -> u8
-    ensures { λ r. ⌜ Is (numberOf (reading (now (word .entry)) (now (sheet .entry)))) r (now (sheet .exit)) ⌝ }
+    ensures { λ r. ⌜ Is (numberOf (reading (now (word .entry)) (now (sheet .entry)))) r (now (sheet .exit)) × Below 256 (now (word .entry)) ⌝ }
 {
     match to_sheet::read(word, sheet) {
         Answer::Accepted { p: _, s: _, d: _ } => 0,
@@ -39,7 +41,7 @@ pub extern "C" fn opl_signalling_read(word: &[u8], sheet: &mut [u8]) -> u8
 // A payload word of stream type 0 or 1 into 1,536 bytes.
 #[no_mangle]
 pub extern "C" fn opl_payload_write(kind: u32, id: u8, payload: &[u8], word: &mut [u8]) -> u8
-    ensures { λ r. ⌜ Is (payloadWritten kind id (now (payload .entry)) (now (word .entry))) r (now (word .exit)) ⌝ }
+    ensures { λ r. ⌜ Is (payloadWritten kind id (now (payload .entry)) (now (word .entry))) r (now (word .exit)) × (id < 256) ⌝ }
 {
     payload::write(kind, id, payload, word)
 }

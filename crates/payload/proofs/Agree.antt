@@ -24,12 +24,12 @@ use Rattle.payload.proofs.read_into.Reads as read-into-reads
 module _ (κs : Lfts 2) (a : ArgsD write.signature κs) where
   pub write-agrees : (r r′ : ResD write.signature κs) (s s′ : AtExit (endedOf 2 write-kinds.ps write-kinds.r) κs) →
       write-reads.Post κs a r s → write-reads.Post κs a r′ s′ → (r ≡ r′) × (now (s .1 .1 .1 .0) ≡ now (s′ .1 .1 .1 .0))
-  write-agrees r r′ s s′ p q = agree p q
+  write-agrees r r′ s s′ p q = agree (p .0) (q .0)
 
 module _ (κs : Lfts 1) (a : ArgsD read.signature κs) where
   pub read-agrees : (r r′ : ResD read.signature κs) (s s′ : AtExit (endedOf 1 read-kinds.ps read-kinds.r) κs) →
       read-reads.Post κs a r s → read-reads.Post κs a r′ s′ → r ≡ r′
-  read-agrees r r′ s s′ p q = told-inj r r′ (same p q)
+  read-agrees r r′ s s′ p q = told-inj r r′ (same (p .0) (q .0))
 
 module _ (κs : Lfts 1) (a : ArgsD payload-of.signature κs) where
   pub payload-of-agrees : (r r′ : ResD payload-of.signature κs) (s s′ : AtExit (endedOf 1 payload-of-kinds.ps payload-of-kinds.r) κs) →

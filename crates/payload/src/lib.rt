@@ -16,7 +16,9 @@ use ground::SPARE_SET;
 use ground::TYPE_UNKNOWN;
 ghost use mathlib.Core.Path.{_≡_};
 ghost use lib.ListN.{length};
+ghost use Prim.Native.Nat.{_<_};
 ghost use Rattle.ground.specs.Outcome.{Is};
+ghost use Rattle.bits.specs.Lists.{Below};
 ghost use Rattle.payload.specs.Answers.{written, readRefusal, told, reading, shown, headerBytes, readInto};
 
 // What reading a word gives: the fields of its header, or the number of its refusal. Encap_Ver is 0 in a word that is accepted.
@@ -30,7 +32,7 @@ const HEADER: usize = 16;
 
 // Writes the payload word of a stream type (0 with an empty payload, 1 with 1,532 bytes) into 1,536 bytes and returns 0; a refusal touches nothing.
 pub fn write(kind: u32, id: u8, payload: &[u8], word: &mut [u8]) -> u8
-    ensures { λ r. ⌜ Is (written kind id (now (payload .entry)) (now (word .entry))) r (now (word .exit)) ⌝ }
+    ensures { λ r. ⌜ Is (written kind id (now (payload .entry)) (now (word .entry))) r (now (word .exit)) × (id < 256) ⌝ }
 {
     let n = packet::refusal(kind, payload.len(), word.len());
     if 0 < n {
@@ -70,7 +72,7 @@ fn read_refusal(word: &[u8]) -> u8
 
 // Reads the header of a payload word.
 pub fn read(word: &[u8]) -> Header
-    ensures { λ r. ⌜ told r ≡ reading (now (word .entry)) ⌝ }
+    ensures { λ r. ⌜ (told r ≡ reading (now (word .entry))) × Below 256 (now (word .entry)) ⌝ }
 {
     let refusal = read_refusal(word);
     if 0 < refusal {

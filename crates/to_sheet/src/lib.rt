@@ -6,6 +6,7 @@ use ground::LENGTH_WRONG;
 use ground::SIGNALLING_WORD;
 use sheets::answer::Answer;
 ghost use Rattle.ground.specs.Outcome.{Is};
+ghost use Rattle.bits.specs.Lists.{Below};
 ghost use Rattle.description.specs.Word.{reading};
 ghost use Rattle.sheets.specs.Answers.{told};
 
@@ -14,7 +15,7 @@ const ROOM: usize = 128;
 
 // Reads a signalling word of 96 bytes into the front of a lent sheet of 128 bytes or more.
 pub fn read(word: &[u8], sheet: &mut [u8]) -> Answer
-    ensures { λ r. ⌜ Is (reading (now (word .entry)) (now (sheet .entry))) (told r) (now (sheet .exit)) ⌝ }
+    ensures { λ r. ⌜ Is (reading (now (word .entry)) (now (sheet .entry))) (told r) (now (sheet .exit)) × Below 256 (now (word .entry)) ⌝ }
 {
     if word.len() != SIGNALLING_WORD {
         return Answer::Refused(LENGTH_WRONG);

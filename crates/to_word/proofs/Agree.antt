@@ -14,4 +14,4 @@ use Rattle.to_word.proofs.write.Reads as write-reads
 module _ (κs : Lfts 2) (a : ArgsD write.signature κs) where
   pub write-agrees : (r r′ : ResD write.signature κs) (s s′ : AtExit (endedOf 2 write-kinds.ps write-kinds.r) κs) →
       write-reads.Post κs a r s → write-reads.Post κs a r′ s′ → (r ≡ r′) × (now (s .1 .0) ≡ now (s′ .1 .0))
-  write-agrees r r′ s s′ p q = agree p q
+  write-agrees r r′ s s′ p q = agree (p .0) (q .0)

@@ -1,6 +1,9 @@
 use mathlib.Core.Path.{sym, _∙_}
 use Rattle.forms.proofs.Checked.{header-faulty, faulty, sound}
+use native.Mathlib.Omega.{arith}
 use borrow.Author.Needs.{needs}
+use Rattle.bits.specs.Lists.{Below}
+use Rattle.bits.proofs.Below.{below-of}
 use Rattle.forms.proofs.check.Statement.{statement}
 use Rattle.forms.proofs.check.Tie as tie
 use Rattle.forms.proofs.check.Reads as reads
@@ -9,13 +12,17 @@ use Rattle.forms.proofs.stated.byte_of.Reads as byte-of-reads
 use Rattle.forms.proofs.stated.header_wrong.Reads as header-wrong-reads
 use Rattle.forms.proofs.records.record_fault.Reads as record-fault-reads
 
+-- what is lent is bytes
+bytes : (c : tie.After-shared-slice-known) → Below 256 (c .before .args .sheet .now)
+bytes c = below-of 256 (c .before .args .sheet .now) (λ i. omega (arith, c .shared-slice-known .given i))
+
 -- src/lib.rt:15:8
 header-wrong-requires : tie.Need-header-wrong-requires
 header-wrong-requires c κs = search needs
 
 -- src/lib.rt:16:9
 returns : tie.Need-returns
-returns c = header-faulty (c .before .before .before .args .sheet .now) (sym (c .before .header-wrong .ensures) ∙ c .if1 .taken)
+returns c = (header-faulty (c .before .before .before .args .sheet .now) (sym (c .before .header-wrong .ensures) ∙ c .if1 .taken), bytes (c .before .before))
 
 -- src/lib.rt:18:9
 byte-of-requires : tie.Need-byte-of-requires
@@ -45,17 +52,21 @@ record-fault-requires c κs = search needs
 returns-2 : tie.Need-returns-2
 returns-2 c =
     let b = c .before .before .before .before in
-    let h = b .before .before in
-    faulty (h .before .before .args .sheet .now) (sym (h .header-wrong .ensures) ∙ b .before .if1 .left) (b .byte-of .ensures) (c .before .before .before .byte-of2 .ensures)
-    (c .before .before .byte-of3 .ensures) (c .before .record-fault .ensures) (c .if2 .taken)
+    let h = b .before .before in (
+      faulty (h .before .before .args .sheet .now) (sym (h .header-wrong .ensures) ∙ b .before .if1 .left) (b .byte-of .ensures) (c .before .before .before .byte-of2 .ensures)
+          (c .before .before .byte-of3 .ensures) (c .before .record-fault .ensures) (c .if2 .taken),
+      bytes (h .before),
+    )
 
 -- src/lib.rt:12:1
 returns-3 : tie.Need-returns-3
 returns-3 c =
     let b = c .before .before .before .before in
-    let h = b .before .before in
-    sound (h .before .before .args .sheet .now) (sym (h .header-wrong .ensures) ∙ b .before .if1 .left) (b .byte-of .ensures) (c .before .before .before .byte-of2 .ensures)
-    (c .before .before .byte-of3 .ensures) (c .before .record-fault .ensures) (c .if2 .left)
+    let h = b .before .before in (
+      sound (h .before .before .args .sheet .now) (sym (h .header-wrong .ensures) ∙ b .before .if1 .left) (b .byte-of .ensures) (c .before .before .before .byte-of2 .ensures)
+          (c .before .before .byte-of3 .ensures) (c .before .record-fault .ensures) (c .if2 .left),
+      bytes (h .before),
+    )
 
 pub check-spec : {M : Type 1} → statement M
 check-spec =

@@ -22,13 +22,13 @@ same-length : tie.Need-same-length
 same-length c = search needs
 
 returns : tie.Need-returns
-returns c = number-is (c .before .before .before .before .read .ensures) (ap (λ r. told r .number) (c .enum-told .given .1))
+returns c = let p = c .before .before .before .before .read .ensures in (number-is (p .0) (ap (λ r. told r .number) (c .enum-told .given .1)), p .1)
 
 same-length-2 : tie.Need-same-length-2
 same-length-2 c = search needs
 
 returns-2 : tie.Need-returns-2
-returns-2 c = number-is (c .before .before .before .before .before .read .ensures) (ap (λ r. told r .number) (c .before .n .given .1))
+returns-2 c = let p = c .before .before .before .before .before .read .ensures in (number-is (p .0) (ap (λ r. told r .number) (c .before .n .given .1)), p .1)
 
 pub opl-signalling-read-spec : {M : Type 1} → statement M
 opl-signalling-read-spec =

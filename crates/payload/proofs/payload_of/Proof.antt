@@ -31,7 +31,7 @@ returns c =
     let g = c .before .enum-told .given in
     let k = c .before .before .before in
     let w = k .before .before .args .word .now in
-    let f = refusal-told w (g .0 .0) (ap told (sym (g .1)) ∙ k .read .ensures) in
+    let f = refusal-told w (g .0 .0) (ap told (sym (g .1)) ∙ k .read .ensures .0) in
     shows-nothing w (g .0 .0) (f .0) (f .1)
 
 cast-bytes : tie.Need-cast-bytes
@@ -46,7 +46,7 @@ slice-aggregate-result-2 c =
     let g = h .h .given in
     let k = h .before .before in
     let w = k .before .before .args .word .now in
-    let f = fields-told w (g .0 .0) (g .0 .1 .0) (g .0 .1 .1 .0) (ap told (sym (g .1)) ∙ k .read .ensures) in
+    let f = fields-told w (g .0 .0) (g .0 .1 .0) (g .0 .1 .1 .0) (ap told (sym (g .1)) ∙ k .read .ensures .0) in
     sym (length-take-le _ w (omega (arith, readable w (sym (f .0)) .word-is, c .before .bytes .ensures .1)))
 
 returns-2 : tie.Need-returns-2
@@ -55,7 +55,7 @@ returns-2 c =
     let g = h .h .given in
     let k = h .before .before in
     let w = k .before .before .args .word .now in
-    let f = fields-told w (g .0 .0) (g .0 .1 .0) (g .0 .1 .1 .0) (ap told (sym (g .1)) ∙ k .read .ensures) in
+    let f = fields-told w (g .0 .0) (g .0 .1 .0) (g .0 .1 .1 .0) (ap told (sym (g .1)) ∙ k .read .ensures .0) in
     shows w _ (f .0) (c .before .bytes .ensures .0 ∙ ap packetBytes (f .3))
 
 pub payload-of-spec : {M : Type 1} → statement M

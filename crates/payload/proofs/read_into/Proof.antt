@@ -37,7 +37,7 @@ returns-2 c =
     let g = c .before .h .given in
     let k = c .before .before .before in
     let a = k .before .before .before .before .args in
-    let f = refusal-told (a .word .now) (g .0 .0) (ap told (sym (g .1)) ∙ k .read .ensures) in
+    let f = refusal-told (a .word .now) (g .0 .0) (ap told (sym (g .1)) ∙ k .read .ensures .0) in
     into-refused (a .word .now) (a .header .now) (omega (arith, k .before .if1 .left)) (g .0 .0) (f .0) (f .1)
 
 same-length : tie.Need-same-length
@@ -51,7 +51,7 @@ returns-3 c =
     let k = h .before .before in
     let a = k .before .before .before .before .args in
     let w : List ℕ = a .word .now in
-    let f = fields-told w (g .0 .0) (g .0 .1 .0) (g .0 .1 .1 .0) (ap told (sym (g .1)) ∙ k .read .ensures) in
+    let f = fields-told w (g .0 .0) (g .0 .1 .0) (g .0 .1 .1 .0) (ap told (sym (g .1)) ∙ k .read .ensures .0) in
     let e : headerBytes (g .0 .0) (g .0 .1 .0) (g .0 .1 .1 .0) 0 ≡ headerBytes (rfuOf w) (idOf w) (kindOf w) 0 = cc (f .1, f .2, f .3) in
     into-done w (a .header .now) (omega (arith, k .before .if1 .left)) (f .0) (p .put-header .last .0) (p .put-header .ensures ∙ e)
 

@@ -22,7 +22,7 @@ returns : tie.Need-returns
 unfolding written
 returns c =
     let k = c .before in
-    refused _ _ _ (k .refusal .result) (k .refusal .ensures) (omega (arith, c .if1 .taken))
+    (refused _ _ _ (k .refusal .result) (k .refusal .ensures) (omega (arith, c .if1 .taken)), omega (arith, k .before .before .before .fits .id))
 
 -- what a write that is not refused has shown
 allowed : (c : tie.Else1) → let a = c .before .before .before .before .args in Writable (a .kind) (length (a .payload .now)) (length (a .word .now))
@@ -62,10 +62,12 @@ returns-2 c =
     let f = allowed o in
     let s = o .before .before .before .before in
     let a = s .args in
-    let e : 0 ≡ o .before .refusal .result = omega (arith, o .if1 .left) in
-    done _ _ _ (p .close .last .0) (e ∙ o .before .refusal .ensures)
-    (laid (a .kind) (a .id) (a .payload .now) (a .word .now) (q .fill .last .1 .0) (p .close .last .0)
-    (f .kind-is) (omega (arith, s .fits .id)) (omega (arith, packet-le (a .kind))) (q .fill .ensures) (p .close .ensures))
+    let e : 0 ≡ o .before .refusal .result = omega (arith, o .if1 .left) in (
+      done _ _ _ (p .close .last .0) (e ∙ o .before .refusal .ensures)
+          (laid (a .kind) (a .id) (a .payload .now) (a .word .now) (q .fill .last .1 .0) (p .close .last .0)
+          (f .kind-is) (omega (arith, s .fits .id)) (omega (arith, packet-le (a .kind))) (q .fill .ensures) (p .close .ensures)),
+      omega (arith, s .fits .id),
+    )
 
 pub write-spec : {M : Type 1} → statement M
 write-spec =

@@ -52,7 +52,7 @@ returns-2 c =
     let k = r .before .before .before in
     let a = k .before .before .before .before .args in
     let m = r .refusal .ensures ∙ ap (λ x. told x .number) (f .1) in
-    refused-put (a .sheet .now) (a .out .now) (search needs) (r .refusal .result) (ap refusedBy m ∙ sym (ap told (f .1)) ∙ k .check .ensures) (c .before .before .line .ensures)
+    refused-put (a .sheet .now) (a .out .now) (search needs) (r .refusal .result) (ap refusedBy m ∙ sym (ap told (f .1)) ∙ k .check .ensures .0) (c .before .before .line .ensures)
 
 lines-requires : tie.Need-lines-requires
 lines-requires c κs = search needs
@@ -65,7 +65,7 @@ returns-3 c =
     let f = c .before .before .before .before .before .answer .given in
     let k = c .before .before .before .before .before .before .before in
     let a = k .before .before .before .before .args in
-    accepted-put (a .sheet .now) (a .out .now) (search needs) (f .0 .0) (f .0 .1 .0) (f .0 .1 .1 .0) (sym (ap told (f .1)) ∙ k .check .ensures) (c .before .before .lines .ensures)
+    accepted-put (a .sheet .now) (a .out .now) (search needs) (f .0 .0) (f .0 .1 .0) (f .0 .1 .1 .0) (sym (ap told (f .1)) ∙ k .check .ensures .0) (c .before .before .lines .ensures)
 
 pub list-spec : {M : Type 1} → statement M
 list-spec =

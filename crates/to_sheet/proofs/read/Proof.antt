@@ -4,6 +4,9 @@ use Rattle.ground.specs.Outcome.{Is}
 use Rattle.description.specs.Word.{reading}
 use Rattle.sheets.specs.Answers.{told}
 use Rattle.to_sheet.proofs.Readings.{word-length, room-length, reading-refused, reading-done, counts}
+use native.Mathlib.Omega.{arith}
+use Rattle.bits.specs.Lists.{Below}
+use Rattle.bits.proofs.Below.{below-of}
 use borrow.Author.Needs.{needs}
 use Rattle.to_sheet.proofs.read.Statement.{statement}
 use Rattle.to_sheet.proofs.read.Tie as tie
@@ -12,15 +15,19 @@ use Rattle.to_sheet.proofs.read.Lts as lts
 use Rattle.to_sheet.proofs.fill.fill.Reads as fill-reads
 use Rattle.to_sheet.proofs.survey.survey.Reads as survey-reads
 
+-- what is lent is bytes
+bytes : (c : tie.After-shared-slice-known) → Below 256 (c .before .args .word .now)
+bytes c = below-of 256 (c .before .args .word .now) (λ i. omega (arith, c .shared-slice-known .given i))
+
 returns : tie.Need-returns
 returns c =
     let a = c .before .before .before .args in
-    word-length (a .word .now) (a .sheet .now) (c .if1 .taken)
+    (word-length (a .word .now) (a .sheet .now) (c .if1 .taken), bytes (c .before .before))
 
 returns-2 : tie.Need-returns-2
 returns-2 c =
     let a = c .before .before .before .before .args in
-    room-length (a .word .now) (a .sheet .now) (search needs) (c .if2 .taken)
+    (room-length (a .word .now) (a .sheet .now) (search needs) (c .if2 .taken), bytes (c .before .before .before))
 
 survey-requires : tie.Need-survey-requires
 survey-requires c κs = search needs
@@ -34,9 +41,11 @@ enum-told c = search needs
 returns-3 : tie.Need-returns-3
 returns-3 c =
     let a = c .before .before .before .before .before .before .before .args in
-    let e = c .enum-told .given .1 in
-    subst (λ t. Is (reading (a .word .now) (a .sheet .now)) (told t) (a .sheet .now)) (sym e)
-    (reading-refused (a .word .now) (a .sheet .now) (search needs) (search needs) (c .enum-told .given .0 .0) (sym (ap told e) ∙ c .before .before .survey .ensures))
+    let e = c .enum-told .given .1 in (
+      subst (λ t. Is (reading (a .word .now) (a .sheet .now)) (told t) (a .sheet .now)) (sym e)
+          (reading-refused (a .word .now) (a .sheet .now) (search needs) (search needs) (c .enum-told .given .0 .0) (sym (ap told e) ∙ c .before .before .survey .ensures)),
+      bytes (c .before .before .before .before .before .before),
+    )
 
 fill-requires : tie.Need-fill-requires
 fill-requires c κs =
@@ -50,9 +59,11 @@ same-length c = search needs
 returns-4 : tie.Need-returns-4
 returns-4 c =
     let a = c .before .before .before .before .before .before .before .before .before .before .before .before .args in
-    let f = c .before .before .before .before .before .found .given in
-    reading-done (a .word .now) (a .sheet .now) (search needs) (search needs) (f .0 .0) (f .0 .1 .0) (f .0 .1 .1 .0) _
-    (sym (ap told (f .1)) ∙ c .before .before .before .before .before .before .before .survey .ensures) (c .before .before .fill .ensures)
+    let f = c .before .before .before .before .before .found .given in (
+      reading-done (a .word .now) (a .sheet .now) (search needs) (search needs) (f .0 .0) (f .0 .1 .0) (f .0 .1 .1 .0) _
+          (sym (ap told (f .1)) ∙ c .before .before .before .before .before .before .before .survey .ensures) (c .before .before .fill .ensures),
+      bytes (c .before .before .before .before .before .before .before .before .before .before .before),
+    )
 
 pub read-spec : {M : Type 1} → statement M
 read-spec =

@@ -1,6 +1,9 @@
 use mathlib.Core.Path.{sym, ap, _∙_}
 use Rattle.sheets.specs.Answers.{told}
 use Rattle.to_word.proofs.Written.{denied-length, denied, stated, written}
+use native.Mathlib.Omega.{arith}
+use Rattle.bits.specs.Lists.{Below}
+use Rattle.bits.proofs.Below.{below-of}
 use borrow.Author.Needs.{needs}
 use Rattle.to_word.proofs.write.Statement.{statement}
 use Rattle.to_word.proofs.write.Tie as tie
@@ -10,8 +13,12 @@ use Rattle.forms.proofs.check.Reads as check-reads
 use Rattle.to_word.proofs.lay.lay.Reads as lay-reads
 
 -- src/lib.rt:13:9
+-- what is lent is bytes
+bytes : (c : tie.After-shared-slice-known) → Below 256 (c .before .args .sheet .now)
+bytes c = below-of 256 (c .before .args .sheet .now) (λ i. omega (arith, c .shared-slice-known .given i))
+
 returns : tie.Need-returns
-returns c = let a = c .before .before .before .args in denied-length (a .sheet .now) (a .word .now) (c .if1 .taken)
+returns c = let a = c .before .before .before .args in (denied-length (a .sheet .now) (a .word .now) (c .if1 .taken), bytes (c .before .before))
 
 -- src/lib.rt:15:11
 check-requires : tie.Need-check-requires
@@ -26,7 +33,7 @@ lay-requires : tie.Need-lay-requires
 lay-requires c κs =
     let a = c .before .before .before .before .before .before .before .before .args in
     let f = c .before .before .p .given in
-    stated (a .sheet .now) (a .word .now) (search needs) (f .0 .0) (f .0 .1 .0) (f .0 .1 .1 .0) (sym (ap told (f .1)) ∙ c .before .before .before .before .check .ensures)
+    stated (a .sheet .now) (a .word .now) (search needs) (f .0 .0) (f .0 .1 .0) (f .0 .1 .1 .0) (sym (ap told (f .1)) ∙ c .before .before .before .before .check .ensures .0)
 
 -- src/lib.rt:20:25
 enum-known-n : tie.Need-enum-known-n
@@ -40,16 +47,18 @@ same-length c = search needs
 returns-2 : tie.Need-returns-2
 returns-2 c =
     let a = c .before .before .before .before .before .before .before .before .before .before .before .args in
-    let f = c .before .before .before .before .before .p .given in
-    written (a .sheet .now) (a .word .now) (search needs) (f .0 .0) (f .0 .1 .0) (f .0 .1 .1 .0)
-    (sym (ap told (f .1)) ∙ c .before .before .before .before .before .before .before .check .ensures) _ (c .before .before .lay .ensures)
+    let f = c .before .before .before .before .before .p .given in (
+      written (a .sheet .now) (a .word .now) (search needs) (f .0 .0) (f .0 .1 .0) (f .0 .1 .1 .0)
+          (sym (ap told (f .1)) ∙ c .before .before .before .before .before .before .before .check .ensures .0) _ (c .before .before .lay .ensures),
+      bytes (c .before .before .before .before .before .before .before .before .before .before),
+    )
 
 -- src/lib.rt:9:1
 returns-3 : tie.Need-returns-3
 returns-3 c =
     let a = c .before .before .before .before .before .before .before .args in
     let f = c .before .n .given in
-    denied (a .sheet .now) (a .word .now) (search needs) (f .0 .0) (sym (ap told (f .1)) ∙ c .before .before .before .check .ensures)
+    (denied (a .sheet .now) (a .word .now) (search needs) (f .0 .0) (sym (ap told (f .1)) ∙ c .before .before .before .check .ensures .0), bytes (c .before .before .before .before .before .before))
 
 pub write-spec : {M : Type 1} → statement M
 write-spec =
