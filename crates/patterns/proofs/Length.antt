@@ -16,9 +16,11 @@ use Rattle.ground.proofs.Table.{at-all}
 use Rattle.patterns.specs.Rates.{rates, rateOf}
 use Rattle.patterns.specs.Rows.{dataRows, tailRows, dataGroup, tailGroup, digit, copies}
 use Rattle.patterns.specs.Blocks.{Coded}
-use Rattle.patterns.specs.Sent.{places, total, codeLength}
+use Rattle.patterns.specs.Sent.{places, total, sent, codeLength}
+use Rattle.patterns.specs.Length.{Length}
 use Rattle.patterns.proofs.Totals.{total-cong, total-add, total-period}
 use Rattle.patterns.proofs.Groups.{copies-data, copies-tail}
+use Rattle.patterns.proofs.Spread.{length-spread}
 
 -- how often the place k of the data is sent, and of the tail
 dataTimes : ℕ → ℕ → ℕ
@@ -55,12 +57,6 @@ count-is p n =
     ∙ ap (total (dataTimes p)) (sym (div-add-mod' (5 * n) (period p))) ∙ total-period (dataTimes p) (period p) (repeats p) (5 * n / period p) (5 * n % period p))
     (total-cong (λ k. copies p n (5 * n + k)) (tailTimes p) 30 (λ k l. copies-tail p n k))
 
--- what is known of a codeword's length
-pub record Length (p n : ℕ) : Type 0 where
-  pub all : total (copies p n) (places n) ≡ codeLength p n
-  pub exact : codeLength p n * rateOf p .num ≡ (n + 6) * rateOf p .den
-  pub bytes : codeLength p n % 8 ≡ 0
-
 rule : ℕ → ℕ → Bool
 rule n p =
     both (eqb (counted p n) (codeLength p n)) (both (eqb (codeLength p n * rateOf p .num) ((n + 6) * rateOf p .den)) (eqb (codeLength p n % 8) 0))
@@ -74,14 +70,14 @@ unfolding rule counted period dataTimes tailTimes dataGroup tailGroup digit tota
 signalling-rule = tt
 
 kept : (p n : ℕ) → T (rule n p) → Length p n
-unfolding rule
+unfolding rule sent
 kept p n t =
     let l : ℕ = codeLength p n in
     let a : Bool = eqb (counted p n) l in
     let b : Bool = eqb (l * rateOf p .num) ((n + 6) * rateOf p .den) in
     let c : Bool = eqb (l % 8) 0 in
     record {
-      all = count-is p n ∙ eqb→eq (counted p n) l (both-left a (both b c) t);
+      all = length-spread (copies p n) (λ k. k) (places n) ∙ count-is p n ∙ eqb→eq (counted p n) l (both-left a (both b c) t);
       exact = eqb→eq (l * rateOf p .num) ((n + 6) * rateOf p .den) (both-left b c (both-right a (both b c) t));
       bytes = eqb→eq (l % 8) 0 (both-right b c (both-right a (both b c) t));
     }
@@ -92,3 +88,8 @@ length-rule p n =
     ⊎-elim
     (λ w. subst (λ (m : ℕ). Length p m) (sym (w .1)) (kept p 12282 (at-all (rule 12282) 28 payload-rule p (w .0))))
     (λ w. subst (λ (m : ℕ). Length p m) (sym (w .1)) (subst (λ (q : ℕ). Length q 762) (sym (w .0)) (kept 0 762 signalling-rule)))
+
+-- the bits sent, counted place by place
+pub total-rule : (p n : ℕ) → Coded p n → total (copies p n) (places n) ≡ codeLength p n
+unfolding sent
+total-rule p n h = sym (length-spread (copies p n) (λ k. k) (places n)) ∙ length-rule p n h .all

@@ -3,3 +3,4 @@ pub mod Blocks
 pub mod Rows
 pub mod Sent
 pub mod Walk
+pub mod Length

@@ -19,7 +19,7 @@ use Rattle.patterns.specs.Rows.{copies}
 use Rattle.patterns.specs.Blocks.{blockBy, blockFaults, Coded}
 use Rattle.patterns.specs.Sent.{places, total, sent, codeLength}
 use Rattle.patterns.proofs.Blocks.{fit-coded, coded-fit, fit-after, coded-bounds}
-use Rattle.patterns.proofs.Length.{length-rule}
+use Rattle.patterns.proofs.Length.{total-rule}
 use Rattle.placement.specs.Place.{receivedFrom, held, placed, blockOf, faults, placing}
 use Rattle.placement.specs.Inside.{run, Placeable, Placed}
 use Rattle.placement.proofs.Received.{received-run}
@@ -65,7 +65,7 @@ placeable p n values lane e z l =
       pattern = b .0;
       some = b .1;
       most = b .2;
-      all = length-rule p n h .all ∙ sym l;
+      all = total-rule p n h ∙ sym l;
       room = lane-length (length lane) (λ q. omega (arith, b .1, e, q)) ∙ ap places (sym e);
     }
 

@@ -15,7 +15,7 @@ use Rattle.patterns.specs.Rows.{copies}
 use Rattle.patterns.specs.Blocks.{Coded}
 use Rattle.patterns.specs.Sent.{places, spread, total, sent, sentFrom, codeLength}
 use Rattle.patterns.proofs.Totals.{total-more, total-mono}
-use Rattle.patterns.proofs.Length.{length-rule}
+use Rattle.patterns.proofs.Length.{total-rule}
 use Rattle.patterns.proofs.Spread.{length-spread, spread-at, From, spread-place}
 use Rattle.turbo.specs.Lane.{laneBit}
 use Rattle.turbo.specs.Encode.{blockOf, codeBits, codeword, encoded}
@@ -92,6 +92,6 @@ code-placed p n w out code r b o z p' values lane lane' r' ep ev el o' =
     let h : Coded p n = subst (Coded p) (sym b) (c .0) in
     let v : values ≡ map pos (codeBits p n w) =
     ev ∙ ap (λ (x : List ℕ). map pos (unpack x)) (c .1 ∙ ap (λ (m : ℕ). codeword p m w) (sym b)) ∙ ap (map pos) (code-unpack p n w h) in
-    let l : length values ≡ codeLength p n = ap length v ∙ length-map (codeBits p n w) pos ∙ code-count p n w ∙ length-rule p n h .all in
+    let l : length values ≡ codeLength p n = ap length v ∙ length-map (codeBits p n w) pos ∙ code-count p n w ∙ total-rule p n h in
     let s = placing-zero p n values lane lane' r' h l el (subst (λ (i : ℕ). Is (placing i values lane) r' lane') ep o') in
     (s .0, λ k i. ap (λ (x : List ℤ). getD x k (pos 0)) (s .1 ∙ ap (placed p n) v) ∙ placed-code p n w k i)

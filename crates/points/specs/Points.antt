@@ -53,12 +53,13 @@ plain ps w ss = record { multiplex = replicate 9 0 ++ (length ps ∷ []); pipes 
 abbrev pub wordBits : Description → List ℕ
 wordBits d = sealed (take 750 (padded (body (listsOf d))))
 
--- p, s and d, the size of the lists, and the number that the word and the sheet are refused with, 0 for accepted
+-- p, s and d, the size that they say, and the number that the word and the sheet are refused with, 0 for accepted
 abbrev pub judged : List ℕ → List ℕ → List ℕ
 judged b sh = pIn b ∷ sIn b ∷ dIn b ∷ size (pIn b) (sIn b) (dIn b) ∷ firstOf (wordFaults b) ∷ firstOf (sheetFaults sh) ∷ []
 
+-- the same behind the bits of the description's lists as the layout writes them
 abbrev pub sized : Description → List ℕ
-sized d = judged (wordBits d) (sheet d)
+sized d = length (body (listsOf d)) ∷ judged (wordBits d) (sheet d)
 
 -- ---- encoder and interleaver
 
@@ -79,13 +80,13 @@ added N c = let a : ℕ = address (parameter N) c in keepIf (ltb a N) a
 unfoldable pub points : List Point
 points =
     -- p = 14, nothing in use: 744 bits, fits
-    point (sized (plain (replicate 14 unused) 0 [])) (14 ∷ 0 ∷ 0 ∷ 744 ∷ 0 ∷ 0 ∷ []) ∷
+    point (sized (plain (replicate 14 unused) 0 [])) (744 ∷ 14 ∷ 0 ∷ 0 ∷ 744 ∷ 0 ∷ 0 ∷ []) ∷
     -- p = 15: 792, refusal 7
-    point (sized (plain (replicate 15 unused) 0 [])) (15 ∷ 0 ∷ 0 ∷ 792 ∷ 7 ∷ 7 ∷ []) ∷
+    point (sized (plain (replicate 15 unused) 0 [])) (792 ∷ 15 ∷ 0 ∷ 0 ∷ 792 ∷ 7 ∷ 7 ∷ []) ∷
     -- p = 2, s = 34, d = 2: 736, fits
-    point (sized (plain (used 0 31 ∷ used 32 0 ∷ []) 1 (streams 33 1))) (2 ∷ 34 ∷ 2 ∷ 736 ∷ 0 ∷ 0 ∷ []) ∷
+    point (sized (plain (used 0 31 ∷ used 32 0 ∷ []) 1 (streams 33 1))) (736 ∷ 2 ∷ 34 ∷ 2 ∷ 736 ∷ 0 ∷ 0 ∷ []) ∷
     -- s = 35: 752, refusal 7
-    point (sized (plain (used 0 31 ∷ used 32 1 ∷ []) 1 (streams 34 1))) (2 ∷ 35 ∷ 2 ∷ 752 ∷ 7 ∷ 7 ∷ []) ∷
+    point (sized (plain (used 0 31 ∷ used 32 1 ∷ []) 1 (streams 34 1))) (752 ∷ 2 ∷ 35 ∷ 2 ∷ 752 ∷ 7 ∷ 7 ∷ []) ∷
     -- input 1 0 0 0 0 to a fresh encoder: Y0 = 1 1 1 1 0, Y1 = 1 1 0 1 1
     point (tab (λ i. y0 (impulse i) (state impulse i)) 0 5 ++ tab (λ i. y1 (impulse i) (state impulse i)) 0 5)
     (1 ∷ 1 ∷ 1 ∷ 1 ∷ 0 ∷ 1 ∷ 1 ∷ 0 ∷ 1 ∷ 1 ∷ []) ∷

@@ -18,7 +18,8 @@ use Rattle.patterns.specs.Rows.{copies}
 use Rattle.patterns.specs.Blocks.{blockBy, Coded}
 use Rattle.patterns.specs.Sent.{places, total, codeLength}
 use Rattle.patterns.proofs.Blocks.{fit-coded, fit-parts, coded-bounds}
-use Rattle.patterns.proofs.Length.{Length, length-rule}
+use Rattle.patterns.specs.Length.{Length}
+use Rattle.patterns.proofs.Length.{length-rule, total-rule}
 use Rattle.interleaver.specs.Read.{blockFor}
 use Rattle.turbo.specs.Encode.{blockOf, codeBits, codeword, wordFaults, faults, refusal, encoded}
 use Rattle.turbo.specs.Stream.{codeBit}
@@ -43,7 +44,7 @@ accepted p w bytes e =
 pub fills : (p n : ℕ) (out : List ℕ) → Accepted p n (length out) → total (copies p n) (places n) ≡ 8 * length out
 fills p n out h =
     let r : Length p n = length-rule p n (h .coded) in
-    r .all ∙ omega (arith, r .bytes, h .size)
+    total-rule p n (h .coded) ∙ omega (arith, r .bytes, h .size)
 
 -- a word whose length tells a block has the block's bits and the six spare ones
 pub word-size : (p n len : ℕ) → n ≡ blockBy 1536 96 len → Coded p n → 8 * len ≡ n + 6

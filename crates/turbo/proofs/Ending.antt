@@ -28,7 +28,8 @@ use Rattle.patterns.specs.Walk.{entries}
 use Rattle.patterns.specs.Sent.{places, spread, total, codeLength}
 use Rattle.patterns.proofs.Blocks.{coded-bounds}
 use Rattle.patterns.proofs.Groups.{entryOf, entry-digit}
-use Rattle.patterns.proofs.Length.{Length, length-rule}
+use Rattle.patterns.specs.Length.{Length}
+use Rattle.patterns.proofs.Length.{length-rule, total-rule}
 use Rattle.patterns.proofs.Totals.{total-add, total-cong}
 use Rattle.constituent.specs.Constituent.{state, clocked}
 use Rattle.constituent.specs.Symbols.{tailSymbols1, tailSymbols2}
@@ -170,7 +171,7 @@ ended p n w out c r s m C S E q =
     let H = P .keeps (codeBit p n w) (code-bit p n w) (S .held) v in
     let R : Length p n = length-rule p n C in
     let full : placeOf s ≡ 8 * length out = P .moved ∙ omega (arith, at, S .full, tail-to p n w hp, bits) in
-    let even : 8 * length out % 32 ≡ 0 = ap (λ (x : ℕ). x % 32) (sym (S .full) ∙ R .all) ∙ words p n C in
+    let even : 8 * length out % 32 ≡ 0 = ap (λ (x : ℕ). x % 32) (sym (S .full) ∙ total-rule p n C) ∙ words p n C in
     packed-ext (codeBit p n w) m (length out) (P .len) (λ k l. H .bytes k (omega (arith, all-stored (s .at) (s .used) (length out) full (P .room) (P .step ∙ S .words) even)))
   where
     sizes : Coded p n → 6 * (n / 6) ≡ n
