@@ -10,8 +10,10 @@ listing := target/bin/listing
 sheet := examples/sheets/story.sheet
 payload := README.md
 frame := target/demo/frame.bin
+headers := $(wildcard include/*.h)
+# as opl.h has it, in three lines
+version = $(shell awk '$$2 ~ /^OPL_VERSION_(MAJOR|MINOR|PATCH)$$/ { print $$3 }' include/opl.h | paste -s -d . -)
 # where `make install` puts the library; DESTDIR, where it is set, goes before each of them
-version := 0.1.0
 PREFIX := /usr/local
 includedir := $(PREFIX)/include
 libdir := $(PREFIX)/lib
@@ -71,7 +73,7 @@ lib: $(archive)
 install: $(archive)
 	$(if $(filter /%,$(PREFIX)),,$(error PREFIX is to be a full path, and is '$(PREFIX)'))
 	install -d '$(DESTDIR)$(includedir)' '$(DESTDIR)$(libdir)' '$(DESTDIR)$(pkgconfigdir)'
-	install -m 644 include/opl.h '$(DESTDIR)$(includedir)/opl.h'
+	install -m 644 $(headers) '$(DESTDIR)$(includedir)'
 	install -m 644 $(archive) '$(DESTDIR)$(libdir)/libopl.a'
 	sed -e 's|@version@|$(version)|' -e 's|@prefix@|$(PREFIX)|' \
 	    -e 's|@includedir@|$(includedir:$(PREFIX)/%=$${prefix}/%)|' -e 's|@libdir@|$(libdir:$(PREFIX)/%=$${prefix}/%)|' \
@@ -79,7 +81,8 @@ install: $(archive)
 	chmod 644 '$(DESTDIR)$(pkgconfigdir)/opl.pc'
 
 uninstall:
-	rm -f '$(DESTDIR)$(includedir)/opl.h' '$(DESTDIR)$(libdir)/libopl.a' '$(DESTDIR)$(pkgconfigdir)/opl.pc'
+	rm -f $(headers:include/%='$(DESTDIR)$(includedir)/%')
+	rm -f '$(DESTDIR)$(libdir)/libopl.a' '$(DESTDIR)$(pkgconfigdir)/opl.pc'
 
 install-test: $(archive)
 	@sh tools/install-test.sh
@@ -94,7 +97,7 @@ $(archive): $(sources)
 $(native): tools/native.sh $(archive)
 	@sh tools/native.sh $@
 
-$(headend): $(wildcard examples/*.c examples/*.h) include/opl.h tools/x86-64.sh $(archive)
+$(headend): $(wildcard examples/*.c examples/*.h) $(headers) tools/x86-64.sh $(archive)
 	@mkdir -p $(@D)
 	@sh tools/x86-64.sh build $@ $(filter %.c,$^)
 

@@ -12,7 +12,7 @@
  *
  *   - A buffer is lent as a pointer and a length. The pointer is valid and not null, and that many
  *     elements are there, to be read, or to be read and written where the pointer is not const.
- *   - A length of zero takes any pointer that is not null.
+ *   - A length of zero takes any pointer that is not null, such as OPL_EMPTY.
  *   - No two buffers that are lent to one call overlap.
  *   - Until the call returns no other thread writes a lent buffer, or reads one that the call may
  *     write.
@@ -30,6 +30,30 @@
 
 #include <stddef.h>
 #include <stdint.h>
+
+/* The version of this header and of the library that comes with it: numbers, and a text of them with dots. */
+#define OPL_VERSION_MAJOR 0
+#define OPL_VERSION_MINOR 1
+#define OPL_VERSION_PATCH 0
+#define OPL_VERSION OPL_DOTTED(OPL_VERSION_MAJOR, OPL_VERSION_MINOR, OPL_VERSION_PATCH)
+
+/* How that text is made, in two steps: # alone takes a macro's name and not its number. */
+#define OPL_DOTTED(a, b, c) OPL_DOTTED_AS_IS(a, b, c)
+#define OPL_DOTTED_AS_IS(a, b, c) #a "." #b "." #c
+
+/*
+ * What to lend as a buffer of length zero, in place of NULL: a pointer to valid memory, none of which is lent.
+ * One call may be lent it more than once. In C it is a void *, which serves for elements of each type, const
+ * or not. C++ converts no void * by itself: there it is a uint8_t *, which serves for bytes, const or not, and is
+ * to be cast for other elements.
+ *
+ * It is a wide literal, as that is aligned for elements of up to four bytes.
+ */
+#ifdef __cplusplus
+#define OPL_EMPTY (reinterpret_cast<uint8_t *>(const_cast<wchar_t *>(L"")))
+#else
+#define OPL_EMPTY ((void *)(uintptr_t)L"")
+#endif
 
 #ifdef __cplusplus
 extern "C" {
@@ -75,8 +99,8 @@ enum opl_refusal {
  *
  * Refusals: OPL_LENGTH where n is not 32.
  *
- * Provisional: the standard inverts the preamble in every second frame. A later version (request 2026-01)
- * will have the caller say which of the two is due, and this function will change with it.
+ * Provisional: the standard inverts the preamble in every second frame. A later version will have the caller
+ * say which of the two is due, and this function will change with it.
  */
 uint8_t opl_preamble(uint8_t *out, size_t n);
 
@@ -192,8 +216,8 @@ uint8_t opl_signalling_write(const uint8_t *sheet, size_t n, uint8_t *word, size
  *
  *   type      the stream type: 0 (dummy) or 1 (transparent)
  *   id        the stream id
- *   payload   n bytes, n = 0 for type 0, whose 1,532 bytes become zero, and 1,532 (OPL_PAYLOAD_BYTES)
- *             for type 1
+ *   payload   n bytes, n = 0 for type 0 (OPL_EMPTY), whose 1,532 bytes become zero, and 1,532
+ *             (OPL_PAYLOAD_BYTES) for type 1
  *   word      m bytes, m = 1,536 (OPL_PAYLOAD_WORD_BYTES)
  *
  * Refusals, in this order:
@@ -281,8 +305,7 @@ uint8_t opl_encode(uint32_t pattern, const uint8_t *infoword, size_t n, uint8_t 
  *   OPL_BLOCK_PATTERN   m is 3,840 and pattern is not 0
  *   OPL_LENGTH          n is not the number of code bits
  *
- * Provisional: a later version (request 2026-08) will have sums clipped to -127 to 127 and places one
- * byte wide.
+ * Provisional: a later version will have sums clipped to -127 to 127 and places one byte wide.
  */
 uint8_t opl_place(uint32_t pattern, const int8_t *values, size_t n, int16_t *lane, size_t m);
 

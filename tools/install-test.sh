@@ -35,6 +35,9 @@ all='./include/opl.h ./lib/libopl.a ./lib/pkgconfig/opl.pc '
 make --no-print-directory install PREFIX="$prefix" DESTDIR= >/dev/null
 [ "$(installed "$prefix")" = "$all" ] || fail "make install put other files in place: $(installed "$prefix")"
 
+version=$(echo OPL_VERSION | gcc -E -P -include "$prefix/include/opl.h" -x c - | tail -n 1 | tr -d '" ')
+grep -qx "Version: $version" "$prefix/lib/pkgconfig/opl.pc" || fail "opl.pc and opl.h, $version, have different versions"
+
 command -v pkg-config >/dev/null || echo 'install-test: pkg-config is not installed; the flags are read out of opl.pc'
 cflags=$(flags --cflags Cflags)
 libs=$(flags --libs Libs)
