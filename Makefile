@@ -48,7 +48,7 @@ help:
 	@echo 'make soak    fuzz the library for a minute (seconds=N for longer), then look for memory faults'
 	@echo 'make lib     build the library, $(archive)'
 	@echo 'make install, make uninstall'
-	@echo '             put the library, its header and opl.pc under $(PREFIX) (PREFIX=FOLDER for another), and remove them'
+	@echo '             put the library, its headers and opl.pc under $(PREFIX) (PREFIX=FOLDER for another), and remove them'
 	@echo 'make clean   remove all that was built'
 
 # the head-end is run, and says why, even where the listing program refused the sheet

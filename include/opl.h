@@ -1,7 +1,8 @@
 /*
  * opl.h: the outer physical layer of satellite digital radio, ETSI EN 302 550-1-1 V1.1.1, for C.
  *
- * Link with -lopl (`pkg-config --cflags --libs opl`), for x86-64 Linux.
+ * Link with -lopl (`pkg-config --cflags --libs opl`), for x86-64 Linux. Beside it, opl_text.h has texts for
+ * the refusal numbers, and the lengths of codewords and sheets.
  *
  * Every function returns a refusal number: 0 (OPL_ACCEPTED) where the call was accepted and did what
  * is said of it, else the number of the first rule that its input breaks, in the order given with the

@@ -31,7 +31,7 @@ flags() { # --cflags Cflags | --libs Libs
     fi
 }
 
-all='./include/opl.h ./lib/libopl.a ./lib/pkgconfig/opl.pc '
+all='./include/opl.h ./include/opl_text.h ./lib/libopl.a ./lib/pkgconfig/opl.pc '
 make --no-print-directory install PREFIX="$prefix" DESTDIR= >/dev/null
 [ "$(installed "$prefix")" = "$all" ] || fail "make install put other files in place: $(installed "$prefix")"
 

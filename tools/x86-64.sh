@@ -1,7 +1,7 @@
 #!/bin/sh
 # The library is compiled for x86-64 Linux, and so is a C program that links it.
 #
-#   tools/x86-64.sh build PROGRAM FILE.c..  compile the files and link them with the library
+#   tools/x86-64.sh build PROGRAM FILE..    compile the files and link them with the library
 #   tools/x86-64.sh run PROGRAM WORD..      run what was built
 #
 # On an x86-64 machine gcc builds it and the machine runs it. On an Arm machine the compiler, the C
@@ -9,10 +9,11 @@
 # machine's C headers.
 #
 # The library is that of this repository, or where OPL_CFLAGS and OPL_LIBS are set the one that these
-# flags of compiler and linker name.
+# flags of compiler and linker name. The files are C11, or where OPL_STANDARD is set what that flag names, which for
+# C++ (FILE.cc) takes g++ besides gcc.
 set -eu
 
-cflags="-std=c11 -Wall -Wextra -Werror -O2 ${OPL_CFLAGS--Iinclude}"
+cflags="${OPL_STANDARD--std=c11} -Wall -Wextra -Werror -O2 ${OPL_CFLAGS--Iinclude}"
 libs=${OPL_LIBS-target/staticlib/libopl.a}
 machine=$(uname -m)
 
@@ -25,7 +26,7 @@ find_toolchain() {
 }
 
 # gcc looks for faults too, as it is what builds on an x86-64 machine
-compile() { # FILE.c OBJECT
+compile() { # FILE OBJECT
     # shellcheck disable=SC2086
     gcc $cflags -S -o /dev/null "$1"
     # shellcheck disable=SC2086
@@ -43,7 +44,7 @@ link_objects() { # PROGRAM OBJECT..
         { printf '%s\n' "$said" >&2; exit 1; }
 }
 
-build() { # PROGRAM FILE.c.., from the top of the repository or in full
+build() { # PROGRAM FILE.., from the top of the repository or in full
     cd "$(dirname "$0")/.."
     program=$1
     shift
@@ -54,7 +55,7 @@ build() { # PROGRAM FILE.c.., from the top of the repository or in full
     find_toolchain
     for file in "$@"; do
         shift
-        object=$program-$(basename "$file" .c).o
+        object=$program-$(basename "$file").o
         compile "$file" "$object"
         set -- "$@" "$object"
     done
@@ -69,5 +70,5 @@ run() { # PROGRAM WORD..
 
 case ${1:-} in
 build | run) "$@" ;;
-*) echo 'usage: tools/x86-64.sh build PROGRAM FILE.c.. | run PROGRAM WORD..' >&2; exit 2 ;;
+*) echo 'usage: tools/x86-64.sh build PROGRAM FILE.. | run PROGRAM WORD..' >&2; exit 2 ;;
 esac

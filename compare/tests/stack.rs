@@ -1,12 +1,14 @@
 //! The stack that each exported function takes, as stack.c measures it, against the figures of include/opl.h.
 
+mod program;
+
 use compare::fuzz::entries;
 use compare::inputs;
 use compare::rng::Rng;
 use compare::second::signalling::sheet_of;
+use program::{build, figure, file, made, run};
 use std::fs;
-use std::path::{Path, PathBuf};
-use std::process::Command;
+use std::path::PathBuf;
 use std::sync::OnceLock;
 
 /// The most bytes that a function took in calls that gave this number.
@@ -16,47 +18,16 @@ struct Taken {
     bytes: usize,
 }
 
-/// A file of the repository.
-fn file(name: &str) -> PathBuf {
-    let compare = Path::new(env!("CARGO_MANIFEST_DIR"));
-    compare
-        .parent()
-        .expect("compare/ stands in the repository")
-        .join(name)
-}
-
-/// Where the program and its sheets are put.
-fn made(name: &str) -> PathBuf {
-    Path::new(env!("CARGO_TARGET_TMPDIR")).join(name)
-}
-
 /// What the program prints.
 fn taken() -> &'static [Taken] {
     static TAKEN: OnceLock<Vec<Taken>> = OnceLock::new();
     TAKEN.get_or_init(|| {
         let program = made("stack");
-        x86_64("build", &[program.clone(), file("compare/stack.c")]);
-        let mut words = vec![program];
-        words.extend(sheets());
-        let printed = x86_64("run", &words);
+        build(&program, &file("compare/stack.c"), "c11");
+        let printed = run(&program, &sheets());
         println!("{printed}");
         printed.lines().map(line).collect()
     })
-}
-
-/// Has tools/x86-64.sh do this. What it prints is given back.
-fn x86_64(task: &str, words: &[PathBuf]) -> String {
-    let output = Command::new("sh")
-        .arg(file("tools/x86-64.sh"))
-        .arg(task)
-        .args(words)
-        // where build.rs writes calls.h
-        .env("CPATH", env!("OUT_DIR"))
-        .output()
-        .expect("a shell starts");
-    let said = String::from_utf8_lossy(&output.stderr);
-    assert!(output.status.success(), "{task}: {}: {said}", output.status);
-    String::from_utf8(output.stdout).expect("the program prints text")
 }
 
 /// Sheets on either side of the bound, and any.
@@ -86,20 +57,6 @@ fn line(line: &str) -> Taken {
         number: number.parse().expect("a refusal number"),
         bytes: bytes.parse().expect("a number of bytes"),
     }
-}
-
-/// A figure of include/opl.h.
-fn figure(name: &str) -> usize {
-    let header = fs::read_to_string(file("include/opl.h")).expect("opl.h is there");
-    let value = header
-        .lines()
-        .find_map(|line| {
-            line.strip_prefix("#define ")?
-                .strip_prefix(name)?
-                .strip_prefix(' ')
-        })
-        .unwrap_or_else(|| panic!("opl.h defines {name}"));
-    value.parse().expect("a plain number")
 }
 
 /// The most bytes that opl_encode took, or that any other function did.

@@ -1,0 +1,87 @@
+/*
+ * Prints what opl_text.h answers and what opl.h states, for tests/text.rs to hold to the library. It is a program
+ * in C99 and in C++ at once, so that both languages see the headers.
+ *
+ *   text HEADERS   HEADERS is a file of sheets' headers, 12 bytes each
+ *
+ * Its lines:
+ *
+ *   version TEXT               OPL_VERSION
+ *   empty NUMBER               the refusal number of a call that is lent OPL_EMPTY
+ *   refusal NUMBER TEXT        opl_refusal_text, of every number that a byte has
+ *   codeword PATTERN N BYTES   opl_codeword_bytes, where it is not 0
+ *   sheet BYTES                opl_sheet_bytes, of each header
+ */
+#include "opl_text.h"
+
+#include <stdio.h>
+
+/* C++ asks for a cast where elements are not bytes. */
+#ifdef __cplusplus
+#define EMPTY_AS(pointer) reinterpret_cast<pointer>(OPL_EMPTY)
+#else
+#define EMPTY_AS(pointer) OPL_EMPTY
+#endif
+
+/* Lent to be read and lent to be written, handed over at once and kept before. */
+static void say_empty(void)
+{
+    static const uint8_t *const none = OPL_EMPTY;
+    static uint8_t word[OPL_PAYLOAD_WORD_BYTES];
+    printf("empty %d\n", opl_payload_write(0, 9, OPL_EMPTY, 0, word, sizeof word));
+    printf("empty %d\n", opl_payload_write(0, 9, none, 0, word, sizeof word));
+    printf("empty %d\n", opl_signalling_write(OPL_EMPTY, 0, OPL_EMPTY, 0));
+    printf("empty %d\n", opl_place(0, EMPTY_AS(const int8_t *), 0, EMPTY_AS(int16_t *), 0));
+}
+
+static void say_refusals(void)
+{
+    uint8_t number = 0;
+    do
+        printf("refusal %d %s\n", number, opl_refusal_text(number));
+    while (number++ < UINT8_MAX);
+}
+
+static void say_codewords(uint32_t pattern)
+{
+    for (size_t n = 0; n <= 2 * OPL_PAYLOAD_WORD_BYTES; n++) {
+        unsigned long infoword = n, bytes = opl_codeword_bytes(pattern, n);
+        if (bytes != 0)
+            printf("codeword %lu %lu %lu\n", pattern + 0UL, infoword, bytes);
+    }
+}
+
+/* The patterns, and numbers that are one when cut to 5, 6, 8 or 16 bits. */
+static void say_all_codewords(void)
+{
+    static const uint32_t large[] = {65535, 65536, 65536 + 27, UINT32_MAX - 31, UINT32_MAX};
+    for (uint32_t pattern = 0; pattern < 300; pattern++)
+        say_codewords(pattern);
+    for (size_t i = 0; i < sizeof large / sizeof large[0]; i++)
+        say_codewords(large[i]);
+}
+
+static void say_sheets(FILE *headers)
+{
+    static uint8_t header[12];
+    while (fread(header, 1, sizeof header, headers) == sizeof header) {
+        unsigned long bytes = opl_sheet_bytes(header);
+        printf("sheet %lu\n", bytes);
+    }
+}
+
+int main(int words, char **word)
+{
+    FILE *headers = words == 2 ? fopen(word[1], "rb") : NULL;
+    if (headers == NULL) {
+        fprintf(stderr, "text: a file of headers is to be named\n");
+        return 1;
+    }
+    printf("version %s\n", OPL_VERSION);
+    say_empty();
+    say_refusals();
+    say_all_codewords();
+    say_sheets(headers);
+    fclose(headers);
+    return fflush(stdout) == 0 ? 0 : 1;
+}
