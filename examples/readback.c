@@ -3,7 +3,7 @@
 #include <stdio.h>
 #include <string.h>
 
-#include "opl.h"
+#include "opl_text.h"
 #include "say.h"
 #include "sheet.h"
 
@@ -59,7 +59,7 @@ static bool read_signalling(const uint8_t *codeword, const uint8_t *sheet, size_
         !accepted(opl_signalling_read(word, sizeof word, back, OPL_SHEET_ROOM), "opl_signalling_read",
                   "the signalling word"))
         return false;
-    if (((size_t)back[10] << 8 | back[11]) != n || memcmp(back, sheet, n) != 0)
+    if (opl_sheet_bytes(back) != n || memcmp(back, sheet, n) != 0)
         return fail("what was read back is another sheet");
     printf("  %-*s accepted: it gives the sheet back, all %zu bytes\n", GIVEN, "signalling word", n);
     word[8] ^= 0x10;
@@ -71,7 +71,7 @@ static bool read_signalling(const uint8_t *codeword, const uint8_t *sheet, size_
 static bool read_payload(const uint8_t *codeword, const struct pipe *pipe, const uint8_t *payload)
 {
     uint8_t word[OPL_PAYLOAD_WORD_BYTES], header[OPL_PAYLOAD_HEADER_BYTES];
-    size_t m = codeword_bytes(pipe->pattern);
+    size_t m = opl_codeword_bytes(pipe->pattern, sizeof word);
     size_t sent = place("first payload codeword", pipe->pattern, codeword, m, word, sizeof word);
     if (sent == 0)
         return false;
@@ -127,7 +127,7 @@ bool read_back(const char *frame_path, const uint8_t *sheet, size_t n, const uin
     const struct pipe *pipe = first_sent(back, pipes);
     if (pipe == NULL)
         return refuse_preamble();
-    if (got < START_BYTES + codeword_bytes(pipe->pattern))
+    if (got < START_BYTES + opl_codeword_bytes(pipe->pattern, OPL_PAYLOAD_WORD_BYTES))
         return fail("%s: it has less than was written", frame_path);
     return read_payload(frame + START_BYTES, pipe, payload) && refuse_preamble();
 }

@@ -1,5 +1,5 @@
 /*
- * What the head-end needs besides the library: files read, failures told, refusals said by name.
+ * What the head-end needs besides the library: files read, failures told, refusals said.
  */
 #ifndef SAY_H
 #define SAY_H

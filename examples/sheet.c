@@ -1,5 +1,7 @@
 #include "sheet.h"
 
+#include "opl_text.h"
+
 /* Bytes of the sheet, as opl.h lays it out. */
 enum { PIPE_COUNT = 0, PIPE_OFFSET = 4, STREAM_OFFSET = 6, TAIL = 19, PIPE_BYTES = 6, STREAM_BYTES = 2 };
 
@@ -47,25 +49,12 @@ size_t sheet_pipes(const uint8_t *sheet, struct pipe pipes[PIPES_MOST])
     return p + 1;
 }
 
-/* The capacity units of a codeword: table 13 at the rate of each pattern; 0 for patterns 28 to 63. */
-static unsigned codeword_units(unsigned pattern)
-{
-    static const uint8_t units[] = {30, 27, 24, 21, 20, 18, 18, 16, 16, 15, 15, 14, 14, 12,
-                                    12, 12, 10, 10, 10, 9,  9,  9,  8,  8,  8,  7,  7,  7};
-    return pattern < sizeof units ? units[pattern] : 0;
-}
-
-size_t codeword_bytes(unsigned pattern)
-{
-    return (size_t)codeword_units(pattern) * UNIT_BYTES;
-}
-
 size_t pipe_codewords(const struct pipe *pipe)
 {
-    unsigned units = codeword_units(pipe->pattern);
-    if (pipe->width == 0 || units == 0)
+    size_t bytes = opl_codeword_bytes(pipe->pattern, OPL_PAYLOAD_WORD_BYTES);
+    if (pipe->width == 0 || bytes == 0)
         return 0;
-    return pipe->tail ? 1 : pipe->width / units;
+    return pipe->tail ? 1 : pipe->width * UNIT_BYTES / bytes;
 }
 
 /* The slots that a stream takes in a schedule period: STS_Width_Slots_1 + 1. */

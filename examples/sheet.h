@@ -32,9 +32,6 @@ struct pipe {
 /* Finds a sheet's pipes, the tail pipe last, and returns how many there are. */
 size_t sheet_pipes(const uint8_t *sheet, struct pipe pipes[PIPES_MOST]);
 
-/* The length of a payload word's codeword: 6 divided by the rate, in units; 0 for the reserved patterns. */
-size_t codeword_bytes(unsigned pattern);
-
 /*
  * The codewords that are made for a pipe in a frame: one for each of its slots, none where it is not in
  * use or its pattern is reserved, and one for the tail pipe, whose width no codeword need fit.
