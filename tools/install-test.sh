@@ -46,7 +46,7 @@ awk '/^```c$/ { code = 1; next } code && /^```$/ { exit } code' README.md >"$pro
 grep -q '^int main' "$program.c" || fail 'README.md has no C program'
 OPL_CFLAGS=$cflags OPL_LIBS=$libs sh tools/x86-64.sh build "$program" "$program.c" ||
     fail "README.md's program was not built with $cflags $libs"
-sh tools/x86-64.sh run "$program" || fail "README.md's program ended with exit status $?"
+sh tools/x86-64.sh run "$program" >/dev/null || fail "README.md's program ended with exit status $?"
 
 make --no-print-directory install PREFIX=/opt/opl DESTDIR="$temp/stage" >/dev/null
 [ "$(installed "$temp/stage/opt/opl")" = "$all" ] || fail 'make install does not heed DESTDIR'
