@@ -28,10 +28,10 @@ counts :=
 
 # what each target needs installed, besides make and a shell
 tools-demo := rt gcc
-tools-test := rt gcc cargo
+tools-test := rt gcc g++ cargo
 tools-lib := rt
 tools-bench := rt gcc cargo $(if $(counts),valgrind)
-tools-soak := rt gcc cargo valgrind
+tools-soak := rt gcc g++ cargo valgrind
 # what cargo is run with so that compare/ links $(native); apart from what it builds for the tests
 natively := OPL_ARCHIVE=$(native) CARGO_TARGET_DIR=target/native
 missing = $(strip $(foreach tool,$1,$(if $(shell command -v $(tool) 2>/dev/null),,$(tool))))

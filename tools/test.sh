@@ -1,8 +1,9 @@
 #!/usr/bin/env bash
-# What `make test` runs: the layout, the whole of `rt ci`, compare's tests over the library that
-# `rt ci` proved, the C example, and a program that is built against the installed library. It exits
-# 0, with `rt ci`'s own 'N passed, 0 failed' as its very last line, only if all of it passed; after
-# any failure the last line names the step that failed.
+# What `make test` runs: the layout and the C headers, which are quick; then the
+# whole of `rt ci`, what the library that it proved asks of its users, compare's tests over that library, the
+# C example, and a program that is built against the installed library. It exits 0, with `rt ci`'s own
+# 'N passed, 0 failed' as its very last line, only if all of it passed; after any failure the last line names
+# the step that failed.
 set -euo pipefail
 cd "$(dirname "$0")/.."
 unset MAKEFLAGS MFLAGS MAKELEVEL
@@ -33,6 +34,9 @@ begin() {
 begin 'rt fmt --check'
 rt fmt --check
 
+begin 'the C headers'
+sh tools/headers.sh
+
 # rt ci starts edits in batches and waits for the slowest of each: more of them than there are cores leave no core idle
 export RT_JOBS="${RT_JOBS:-6}"
 
@@ -48,6 +52,9 @@ last=$(tail -n 1 "$said")
 
 begin 'the library'
 make --no-print-directory lib
+
+begin "the library's symbols"
+sh tools/symbols.sh target/staticlib/libopl.a
 
 begin 'compare'
 (cd compare && cargo test --release --offline --locked)
