@@ -28,7 +28,7 @@ counts :=
 
 # what each target needs installed, besides make and a shell
 tools-demo := rt gcc
-tools-test := rt gcc g++ cargo
+tools-test := rt gcc g++ cargo python3
 tools-lib := rt
 tools-bench := rt gcc cargo $(if $(counts),valgrind)
 tools-soak := rt gcc g++ cargo valgrind

@@ -1,5 +1,5 @@
 #!/usr/bin/env bash
-# What `make test` runs: the layout and the C headers, which are quick; then the
+# What `make test` runs: the layout, the names in the documents and the C headers, which are quick; then the
 # whole of `rt ci`, what the library that it proved asks of its users, compare's tests over that library, the
 # C example, and a program that is built against the installed library. It exits 0, with `rt ci`'s own
 # 'N passed, 0 failed' as its very last line, only if all of it passed; after any failure the last line names
@@ -33,6 +33,9 @@ begin() {
 
 begin 'rt fmt --check'
 rt fmt --check
+
+begin 'the names in the documents'
+python3 tools/names.py
 
 begin 'the C headers'
 sh tools/headers.sh
