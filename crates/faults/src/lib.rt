@@ -28,7 +28,7 @@ fn width_wrong(q: Pipe) -> bool
         let units = patterns::units(q.pattern as usize) as u32;
         return q.width % units != 0;
     }
-    false
+    false // 28 to 63 stand for no pattern, and are carried (document 01)
 }
 
 // 9: whether one of the p payload pipes at a place has such a width.

@@ -1,6 +1,5 @@
 -- The way back of payload words, of the exported functions' own promises.
 -- Assumes nothing.
-use Prim.Native.Nat.{_<_}
 use mathlib.Core.Path.{_≡_}
 use contract.Lifetimes.{Lfts}
 use borrow.Fn.World.{ArgsD, ResD}

@@ -11,7 +11,6 @@ use borrow.Fn.Kinds.{endedOf}
 use denote.Ref.{now}
 use denote.Triple.Clauses.{AtExit}
 use lib.ListN.{length, drop}
-use Rattle.bits.specs.Lists.{Below}
 use Rattle.bits.specs.Places.{bitAt}
 use Rattle.payload.specs.Word.{wordOf}
 use Rattle.payload.specs.Answers.{told, reading, shown, headerBytes}

@@ -3,3 +3,5 @@ pub mod Short
 pub mod Listed
 pub mod Told
 pub mod Agree
+pub mod Ok
+pub mod Demand

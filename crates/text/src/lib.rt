@@ -4,6 +4,7 @@ mod records;
 use sheets::answer::Answer;
 ghost use mathlib.Core.Path.{_≡_};
 ghost use Rattle.ground.specs.Outcome.{Is};
+ghost use Rattle.bits.specs.Lists.{Below};
 ghost use Rattle.sheets.specs.Answers.{told as toldSheet};
 ghost use Rattle.text.specs.Answers.{told, listed};
 
@@ -26,7 +27,7 @@ fn refusal(answer: Answer) -> u8
 
 // Lists a sheet, of any length, into the front of a lent room of 1,024 bytes or more.
 pub fn list(sheet: &[u8], out: &mut [u8]) -> Listing
-    ensures { λ r. ⌜ Is (listed (now (sheet .entry)) (now (out .entry))) (told r) (now (out .exit)) ⌝ }
+    ensures { λ r. ⌜ Is (listed (now (sheet .entry)) (now (out .entry))) (told r) (now (out .exit)) × Below 256 (now (sheet .entry)) ⌝ }
 {
     if out.len() < 1024 {
         return Listing::NoRoom;

@@ -42,14 +42,14 @@ array-share-prefix-out : tie.Need-array-share-prefix-out
 array-share-prefix-out c =
     let f = c .before .answer2 .given in
     let l = c .before .before .before .before .before .list in
-    let h = subst (λ r. final (told r .values) ≤ 815) (f .1) (told-short _ _ (l .ensures)) in
+    let h = subst (λ r. final (told r .values) ≤ 815) (f .1) (told-short _ _ (l .ensures .0)) in
     omega arith
 
 slice-aggregate-write-all : tie.Need-slice-aggregate-write-all
 slice-aggregate-write-all c =
     let f = c .before .before .answer2 .given in
     let l = c .before .before .before .before .before .before .list in
-    let h = subst (λ r. final (told r .values) ≤ 815) (f .1) (told-short _ _ (l .ensures)) in
+    let h = subst (λ r. final (told r .values) ≤ 815) (f .1) (told-short _ _ (l .ensures .0)) in
     sym (length-take-le (f .0 .1 .0) (l .last .1 .0) (omega arith))
 
 write-all-requires : tie.Need-write-all-requires
@@ -65,14 +65,14 @@ array-share-prefix-out-2 : tie.Need-array-share-prefix-out-2
 array-share-prefix-out-2 c =
     let f = c .before .answer .given in
     let l = c .before .before .before .before .list in
-    let h = subst (λ r. final (told r .values) ≤ 815) (f .1) (told-short _ _ (l .ensures)) in
+    let h = subst (λ r. final (told r .values) ≤ 815) (f .1) (told-short _ _ (l .ensures .0)) in
     omega arith
 
 slice-aggregate-write-all-2 : tie.Need-slice-aggregate-write-all-2
 slice-aggregate-write-all-2 c =
     let f = c .before .before .answer .given in
     let l = c .before .before .before .before .before .list in
-    let h = subst (λ r. final (told r .values) ≤ 815) (f .1) (told-short _ _ (l .ensures)) in
+    let h = subst (λ r. final (told r .values) ≤ 815) (f .1) (told-short _ _ (l .ensures .0)) in
     sym (length-take-le (f .0 .0) (l .last .1 .0) (omega arith))
 
 write-all-requires-2 : tie.Need-write-all-requires-2

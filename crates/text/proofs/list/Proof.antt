@@ -1,7 +1,10 @@
 -- `text::list` meets its contract. Assumes nothing.
 use mathlib.Core.Path.{sym, ap, _∙_}
+use native.Mathlib.Omega.{arith}
 use borrow.Author.Needs.{needs}
 use Rattle.ground.proofs.Answers.{refusedBy}
+use Rattle.bits.specs.Lists.{Below}
+use Rattle.bits.proofs.Below.{below-of}
 use Rattle.sheets.specs.Answers.{told}
 use Rattle.text.specs.Listing.{refused}
 use Rattle.text.proofs.Listed.{no-room, accepted-put, refused-put}
@@ -14,8 +17,12 @@ use Rattle.text.proofs.records.lines.Reads as lines-reads
 use Rattle.text.proofs.refusal.Reads as refusal-reads
 use Rattle.words.proofs.line.Reads as line-reads
 
+-- what is lent is bytes
+bytes : (c : tie.After-shared-slice-known) → Below 256 (c .before .args .sheet .now)
+bytes c = below-of 256 (c .before .args .sheet .now) (λ i. omega (arith, c .shared-slice-known .given i))
+
 returns : tie.Need-returns
-returns c = let a = c .before .before .before .args in no-room (a .sheet .now) (a .out .now) (search needs)
+returns c = let a = c .before .before .before .args in (no-room (a .sheet .now) (a .out .now) (search needs), bytes (c .before .before))
 
 check-requires : tie.Need-check-requires
 check-requires c κs = search needs
@@ -51,8 +58,10 @@ returns-2 c =
     let f = r .before .enum-told .given in
     let k = r .before .before .before in
     let a = k .before .before .before .before .args in
-    let m = r .refusal .ensures ∙ ap (λ x. told x .number) (f .1) in
-    refused-put (a .sheet .now) (a .out .now) (search needs) (r .refusal .result) (ap refusedBy m ∙ sym (ap told (f .1)) ∙ k .check .ensures .0) (c .before .before .line .ensures)
+    let m = r .refusal .ensures ∙ ap (λ x. told x .number) (f .1) in (
+      refused-put (a .sheet .now) (a .out .now) (search needs) (r .refusal .result) (ap refusedBy m ∙ sym (ap told (f .1)) ∙ k .check .ensures .0) (c .before .before .line .ensures),
+      k .check .ensures .1,
+    )
 
 lines-requires : tie.Need-lines-requires
 lines-requires c κs = search needs
@@ -64,8 +73,10 @@ returns-3 : tie.Need-returns-3
 returns-3 c =
     let f = c .before .before .before .before .before .answer .given in
     let k = c .before .before .before .before .before .before .before in
-    let a = k .before .before .before .before .args in
-    accepted-put (a .sheet .now) (a .out .now) (search needs) (f .0 .0) (f .0 .1 .0) (f .0 .1 .1 .0) (sym (ap told (f .1)) ∙ k .check .ensures .0) (c .before .before .lines .ensures)
+    let a = k .before .before .before .before .args in (
+      accepted-put (a .sheet .now) (a .out .now) (search needs) (f .0 .0) (f .0 .1 .0) (f .0 .1 .1 .0) (sym (ap told (f .1)) ∙ k .check .ensures .0) (c .before .before .lines .ensures),
+      k .check .ensures .1,
+    )
 
 pub list-spec : {M : Type 1} → statement M
 list-spec =
