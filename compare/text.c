@@ -9,7 +9,7 @@
  *   version TEXT               OPL_VERSION
  *   empty NUMBER               the refusal number of a call that is lent OPL_EMPTY
  *   refusal NUMBER TEXT        opl_refusal_text, of every number that a byte has
- *   codeword PATTERN N BYTES   opl_codeword_bytes, where it is not 0
+ *   codeword PATTERN BYTES     opl_codeword_bytes, where it is not 0
  *   sheet BYTES                opl_sheet_bytes, of each header
  */
 #include "opl_text.h"
@@ -42,13 +42,11 @@ static void say_refusals(void)
     while (number++ < UINT8_MAX);
 }
 
-static void say_codewords(uint32_t pattern)
+static void say_codeword(uint32_t pattern)
 {
-    for (size_t n = 0; n <= 2 * OPL_PAYLOAD_WORD_BYTES; n++) {
-        unsigned long infoword = n, bytes = opl_codeword_bytes(pattern, n);
-        if (bytes != 0)
-            printf("codeword %lu %lu %lu\n", pattern + 0UL, infoword, bytes);
-    }
+    unsigned long bytes = opl_codeword_bytes(pattern);
+    if (bytes != 0)
+        printf("codeword %lu %lu\n", pattern + 0UL, bytes);
 }
 
 /* The patterns, and numbers that are one when cut to 5, 6, 8 or 16 bits. */
@@ -56,9 +54,9 @@ static void say_all_codewords(void)
 {
     static const uint32_t large[] = {65535, 65536, 65536 + 27, UINT32_MAX - 31, UINT32_MAX};
     for (uint32_t pattern = 0; pattern < 300; pattern++)
-        say_codewords(pattern);
+        say_codeword(pattern);
     for (size_t i = 0; i < sizeof large / sizeof large[0]; i++)
-        say_codewords(large[i]);
+        say_codeword(large[i]);
 }
 
 static void say_sheets(FILE *headers)

@@ -98,7 +98,7 @@ static bool put_codeword(struct frame *frame, const struct pipe *pipe, size_t sl
 {
     uint8_t payload[OPL_PAYLOAD_BYTES], word[OPL_PAYLOAD_WORD_BYTES], codeword[OPL_PAYLOAD_CODEWORD_MOST];
     uint8_t id = slot_stream(pipe, slot);
-    size_t m = opl_codeword_bytes(pipe->pattern, sizeof word);
+    size_t m = opl_codeword_bytes(pipe->pattern);
     frame->bytes += m;
     return take_payload(frame, payload) &&
            accepted(opl_payload_write(TRANSPARENT, id, payload, sizeof payload, word, sizeof word),
@@ -138,7 +138,7 @@ static void say_pipe(const struct pipe *pipe, size_t number)
         printf("  %4zu", number);
     printf("  %7u  %14u  %9zu  ", pipe->pattern, pipe->width, slots);
     if (slots != 0) {
-        printf("%10zu ", opl_codeword_bytes(pipe->pattern, OPL_PAYLOAD_WORD_BYTES));
+        printf("%10zu ", opl_codeword_bytes(pipe->pattern));
         say_slots(pipe, slots);
     } else if (pipe->width != 0) {
         printf("         -  none: a reserved pattern");

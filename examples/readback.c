@@ -71,7 +71,7 @@ static bool read_signalling(const uint8_t *codeword, const uint8_t *sheet, size_
 static bool read_payload(const uint8_t *codeword, const struct pipe *pipe, const uint8_t *payload)
 {
     uint8_t word[OPL_PAYLOAD_WORD_BYTES], header[OPL_PAYLOAD_HEADER_BYTES];
-    size_t m = opl_codeword_bytes(pipe->pattern, sizeof word);
+    size_t m = opl_codeword_bytes(pipe->pattern);
     size_t sent = place("first payload codeword", pipe->pattern, codeword, m, word, sizeof word);
     if (sent == 0)
         return false;
@@ -127,7 +127,7 @@ bool read_back(const char *frame_path, const uint8_t *sheet, size_t n, const uin
     const struct pipe *pipe = first_sent(back, pipes);
     if (pipe == NULL)
         return refuse_preamble();
-    if (got < START_BYTES + opl_codeword_bytes(pipe->pattern, OPL_PAYLOAD_WORD_BYTES))
+    if (got < START_BYTES + opl_codeword_bytes(pipe->pattern))
         return fail("%s: it has less than was written", frame_path);
     return read_payload(frame + START_BYTES, pipe, payload) && refuse_preamble();
 }

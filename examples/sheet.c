@@ -51,7 +51,7 @@ size_t sheet_pipes(const uint8_t *sheet, struct pipe pipes[PIPES_MOST])
 
 size_t pipe_codewords(const struct pipe *pipe)
 {
-    size_t bytes = opl_codeword_bytes(pipe->pattern, OPL_PAYLOAD_WORD_BYTES);
+    size_t bytes = opl_codeword_bytes(pipe->pattern);
     if (pipe->width == 0 || bytes == 0)
         return 0;
     return pipe->tail ? 1 : pipe->width * UNIT_BYTES / bytes;

@@ -43,22 +43,19 @@ static inline const char *opl_refusal_text(uint8_t number)
 }
 
 /*
- * The length of a codeword, in bytes: the m with which opl_encode accepts this pattern and n. The n of opl_place,
- * the number of code bits, is eight times that.
+ * The length of a payload word's codeword, in bytes: the m with which opl_encode accepts this pattern for 1,536 bytes.
+ * The n of opl_place, the number of code bits, is eight times that. A signalling word's codeword has
+ * OPL_SIGNALLING_CODEWORD_BYTES.
  *
- *   pattern   the puncturing pattern, 0 to 27; only 0 for a signalling word
- *   n         the length of the infoword in bytes: 1,536 (OPL_PAYLOAD_WORD_BYTES) or 96 (OPL_SIGNALLING_BYTES)
- *
- * It is 0, which no codeword's length is, for any other pattern or n: these opl_encode refuses whatever m is.
+ *   pattern   the puncturing pattern, 0 to 27; any other gives 0, which no codeword's length is
  */
-static inline size_t opl_codeword_bytes(uint32_t pattern, size_t n)
+static inline size_t opl_codeword_bytes(uint32_t pattern)
 {
-    /* 6 divided by the code rate of each pattern; a sixth of n is a whole number for both infowords */
+    /* 6 divided by the code rate of each pattern; a sixth of the payload word is a whole number of bytes */
     static const uint8_t sixths[] = {30, 27, 24, 21, 20, 18, 18, 16, 16, 15, 15, 14, 14, 12,
                                      12, 12, 10, 10, 10, 9,  9,  9,  8,  8,  8,  7,  7,  7};
-    if (n == OPL_SIGNALLING_BYTES ? pattern != 0 : n != OPL_PAYLOAD_WORD_BYTES || pattern >= sizeof sixths)
-        return 0;
-    return n / 6 * sixths[pattern];
+    size_t sixth = OPL_PAYLOAD_WORD_BYTES / 6;
+    return pattern < sizeof sixths ? sixth * sixths[pattern] : 0;
 }
 
 /*

@@ -139,14 +139,11 @@ fn every_other_number_has_one_text() {
     assert!(own.iter().all(|(_, text)| *text != other));
 }
 
-/// The lengths that are not 0, by pattern and length of the infoword.
-fn codewords() -> BTreeMap<(u32, usize), usize> {
+/// The lengths that are not 0, by pattern.
+fn codewords() -> BTreeMap<u32, usize> {
     let row = |line: &str| {
-        let words: Vec<usize> = line.split(' ').map(number).collect();
-        let [pattern, n, bytes] = words[..] else {
-            panic!("three numbers: {line}")
-        };
-        ((pattern as u32, n), bytes)
+        let (pattern, bytes) = line.split_once(' ').expect("two numbers");
+        (number(pattern), number(bytes))
     };
     lines("codeword").map(row).collect()
 }
@@ -161,8 +158,10 @@ fn encoded(rng: &mut Rng, pattern: u32, n: usize, length: usize) -> u8 {
 fn a_codeword_of_just_that_length_is_accepted() {
     let mut rng = Rng::new(722);
     let codewords = codewords();
-    assert_eq!(codewords.len(), 28 + 1);
-    for ((pattern, n), bytes) in codewords {
+    assert_eq!(codewords.len(), 28);
+    let signalling = (0, 96, figure("OPL_SIGNALLING_CODEWORD_BYTES"));
+    let payload = codewords.iter().map(|(&pattern, &bytes)| (pattern, 1_536, bytes));
+    for (pattern, n, bytes) in payload.chain([signalling]) {
         let mut at = |length| encoded(&mut rng, pattern, n, length);
         let found = [bytes - 1, bytes, bytes + 1].map(&mut at);
         assert_eq!(found, [1, 0, 1], "pattern {pattern}, {n} bytes");
@@ -175,11 +174,9 @@ fn where_there_is_no_length_none_is_accepted() {
     let codewords = codewords();
     let lengths: BTreeSet<usize> = codewords.values().copied().chain([0]).collect();
     for pattern in (0..64).chain([65_536, u32::MAX]) {
-        for n in [95, 96, 97, 1_535, 1_536, 1_537] {
-            let refused = |&length| encoded(&mut rng, pattern, n, length) != 0;
-            let due = codewords.contains_key(&(pattern, n));
-            assert_eq!(!lengths.iter().all(refused), due, "{pattern}, {n} bytes");
-        }
+        let refused = |&length| encoded(&mut rng, pattern, 1_536, length) != 0;
+        let due = codewords.contains_key(&pattern);
+        assert_eq!(!lengths.iter().all(refused), due, "{pattern}");
     }
 }
 
