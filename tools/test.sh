@@ -40,9 +40,6 @@ python3 tools/names.py
 begin 'the C headers'
 sh tools/headers.sh
 
-# rt ci starts edits in batches and waits for the slowest of each: more of them than there are cores leave no core idle
-export RT_JOBS="${RT_JOBS:-6}"
-
 # rt ci removes target/ first, so what it says is kept outside until it is done
 begin 'rt ci'
 proved=0
