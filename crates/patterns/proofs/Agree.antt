@@ -21,9 +21,6 @@ use Rattle.patterns.proofs.unfit.Reads as unfit-reads
 use Rattle.patterns.proofs.rows.entries as entries
 use Rattle.patterns.proofs.rows.entries.Kinds as entries-kinds
 use Rattle.patterns.proofs.rows.entries.Reads as entries-reads
-use Rattle.patterns.proofs.rows.next_entry as next-entry
-use Rattle.patterns.proofs.rows.next_entry.Kinds as next-entry-kinds
-use Rattle.patterns.proofs.rows.next_entry.Reads as next-entry-reads
 use Rattle.patterns.proofs.rows.digit as digit
 use Rattle.patterns.proofs.rows.digit.Kinds as digit-kinds
 use Rattle.patterns.proofs.rows.digit.Reads as digit-reads
@@ -37,11 +34,6 @@ module _ (κs : Lfts 0) (a : ArgsD entries.signature κs) where
   pub entries-agrees : (r r′ : ResD entries.signature κs) (s s′ : AtExit (endedOf 0 entries-kinds.ps entries-kinds.r) κs) →
       entries-reads.Post κs a r s → entries-reads.Post κs a r′ s′ → r ≡ r′
   entries-agrees r r′ s s′ p q = same p q
-
-module _ (κs : Lfts 0) (a : ArgsD next-entry.signature κs) where
-  pub next-entry-agrees : (r r′ : ResD next-entry.signature κs) (s s′ : AtExit (endedOf 0 next-entry-kinds.ps next-entry-kinds.r) κs) →
-      next-entry-reads.Post κs a r s → next-entry-reads.Post κs a r′ s′ → r ≡ r′
-  next-entry-agrees r r′ s s′ p q = same p q
 
 module _ (κs : Lfts 0) (a : ArgsD digit.signature κs) where
   pub digit-agrees : (r r′ : ResD digit.signature κs) (s s′ : AtExit (endedOf 0 digit-kinds.ps digit-kinds.r) κs) →

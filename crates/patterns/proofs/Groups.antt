@@ -1,21 +1,21 @@
 -- Laws of the rows: where the data end and the tail begins, and that twelve data groups and six tail groups stand for all.
 -- Assumes nothing.
 use Prim.Native.Nat.{ℕ, _+_, _-_, _*_, _/_, _%_, _≤_, _<_}
-use mathlib.Core.Path.{_≡_, sym, ap, ap₂, _∙_}
-use mathlib.Core.Bool.{Bool}
+use mathlib.Core.Path.{_≡_, sym, ap, ap₂, _∙_, subst, subst₂}
+use mathlib.Core.Bool.{Bool, true, false}
 use mathlib.Core.List.{[]}
-use native.Mathlib.Nat.{mod-mod-of-dvd, dvd-of-mod-eq-zero, zero-add}
-use native.Mathlib.Decide.{decLt, ℕ-discrete}
+use native.Mathlib.Nat.{mod-mod-of-dvd, dvd-of-mod-eq-zero, zero-add, add-zero}
+use native.Mathlib.Decide.{decLt}
 use native.Mathlib.Omega.{arith}
-use lib.Dec.{T, eqb, ltb, leb, eqb→eq, leb→le}
+use lib.Dec.{T, eqb, ltb, leb, eqb→eq, leb→le, ltb→lt}
 use lib.ListN.{length, getD}
-use borrow.Author.Tests.{lt-ltb, le-ltb, eq-eqb, ne-eqb}
+use borrow.Author.Tests.{lt-ltb, le-ltb}
 use Rattle.ground.specs.Choice.{choose}
 use Rattle.ground.specs.Table.{allBelow}
 use Rattle.ground.proofs.Choice.{choose-true, choose-false}
 use Rattle.ground.proofs.Table.{at-all, getD-tab}
 use Rattle.patterns.specs.Rows.{dataRows, tailRows, dataGroup, tailGroup, groupAt, digit, copies}
-use Rattle.patterns.specs.Walk.{entries, nextEntry}
+use Rattle.patterns.specs.Walk.{entries}
 
 pub digit-lt : (x s : ℕ) → digit x s < 8
 unfolding digit
@@ -73,11 +73,11 @@ unfoldable pub entryOf : ℕ → ℕ → ℕ
 entryOf n i = choose (ltb i n) (i % 12) (12 + (i - n))
 
 module _ (n i : ℕ) where
-  entry-data : i < n → entryOf n i ≡ i % 12
+  pub entry-data : i < n → entryOf n i ≡ i % 12
   unfolding entryOf
   entry-data h = choose-true (i % 12) (12 + (i - n)) (lt-ltb i n h)
 
-  entry-tail : n ≤ i → entryOf n i ≡ 12 + (i - n)
+  pub entry-tail : n ≤ i → entryOf n i ≡ 12 + (i - n)
   unfolding entryOf
   entry-tail h = choose-false (i % 12) (12 + (i - n)) (le-ltb i n h)
 
@@ -106,48 +106,56 @@ entry-digit p n i s hp hi hs =
     ap (λ (x : ℕ). digit x s) (getD-tab (groupAt p 12) 0 0 18 (entryOf n i) (entry-lt n i hi) ∙ ap (groupAt p 12) (zero-add (entryOf n i)) ∙ entry-group n i p hp)
     ∙ sym (copies-symbol p n i s hs)
 
--- the first group has the first entry
-pub entry-first : (n : ℕ) → 0 < n → entryOf n 0 ≡ 0
-entry-first n h = entry-data n 0 h
+-- no symbol of a data group is sent twice, and none of the tail more than three times: the symbol x % 5 of the entry x / 5 % 18 of the pattern x / 90
+most : ℕ → ℕ
+most j = choose (ltb j 12) 1 3
 
--- the entry of a group leads to that of the next
-pub entry-next : (n i : ℕ) → i < n + 6 → nextEntry n (i + 1) (entryOf n i) ≡ entryOf n (i + 1)
-unfolding nextEntry
-entry-next n i h =
-    elim (ℕ-discrete (i + 1) n) [
-      | yes q ↦ choose-true _ _ (eq-eqb (i + 1) n q) ∙ sym (entry-tail n (i + 1) (omega arith) ∙ omega arith)
-      | no q ↦ choose-false _ _ (ne-eqb (i + 1) n q) ∙ step q (decLt i n) (ℕ-discrete (i % 12) 11)
-    ]
-  where
-    up : (i + 1 ≡ n → ⊥) → (j : ℕ) → entryOf n i ≡ j → (j ≡ 11 → ⊥) → j < 18 → j + 1 ≡ entryOf n (i + 1)
-        → choose (eqb (entryOf n i) 11) 0 (choose (ltb (entryOf n i) 18) (entryOf n i + 1) 0) ≡ entryOf n (i + 1)
-    up q j e ne l s =
-        ap (λ (x : ℕ). choose (eqb x 11) 0 (choose (ltb x 18) (x + 1) 0)) e ∙ choose-false _ _ (ne-eqb j 11 ne) ∙ choose-true _ _ (lt-ltb j 18 l) ∙ s
-
-    step : (i + 1 ≡ n → ⊥) → Dec (i < n) → Dec (i % 12 ≡ 11)
-        → choose (eqb (entryOf n i) 11) 0 (choose (ltb (entryOf n i) 18) (entryOf n i + 1) 0) ≡ entryOf n (i + 1)
-    step q (yes l) (yes w) = choose-true _ _ (eq-eqb (entryOf n i) 11 (entry-data n i l ∙ w)) ∙ sym (entry-data n (i + 1) (omega arith) ∙ omega arith)
-    step q (yes l) (no w) = up q (i % 12) (entry-data n i l) w (omega arith) (sym (entry-data n (i + 1) (omega arith) ∙ omega arith))
-    step q (no l) w = up q (12 + (i - n)) (entry-tail n i (omega arith)) (omega arith) (omega arith) (sym (entry-tail n (i + 1) (omega arith) ∙ omega arith))
-
--- no symbol is sent more than three times: the symbol x % 5 of the entry x / 5 % 18 of the pattern x / 90
 few : ℕ → Bool
-few x = leb (digit (groupAt (x / 90) 12 (x / 5 % 18)) (x % 5)) 3
+few x = leb (digit (groupAt (x / 90) 12 (x / 5 % 18)) (x % 5)) (most (x / 5 % 18))
 
 all-few : T (allBelow few 2520)
-unfolding few groupAt dataGroup tailGroup digit dataRows tailRows
+unfolding few most groupAt dataGroup tailGroup digit dataRows tailRows
 all-few = tt
 
-pub copies-le : (p n k : ℕ) → p < 28 → k < 5 * (n + 6) → copies p n k ≤ 3
+copies-most : (p n k : ℕ) → p < 28 → k < 5 * (n + 6) → copies p n k ≤ most (entryOf n (k / 5))
 unfolding few copies
-copies-le p n k h l =
+copies-most p n k h l =
     let j : ℕ = entryOf n (k / 5) in
     let i : j < 18 = entry-lt n (k / 5) (omega arith) in
     let x : ℕ = p * 90 + j * 5 + k % 5 in
     let ep : x / 90 ≡ p = omega arith in
     let ej : x / 5 % 18 ≡ j = omega arith in
     let es : x % 5 ≡ k % 5 = omega arith in
-    let t : digit (groupAt (x / 90) 12 (x / 5 % 18)) (x % 5) ≤ 3 = leb→le (digit (groupAt (x / 90) 12 (x / 5 % 18)) (x % 5)) 3 (at-all few 2520 all-few x (omega arith)) in
+    let t : digit (groupAt (x / 90) 12 (x / 5 % 18)) (x % 5) ≤ most (x / 5 % 18) = leb→le (digit (groupAt (x / 90) 12 (x / 5 % 18)) (x % 5)) (most (x / 5 % 18)) (at-all few 2520 all-few x (omega arith)) in
     let e : digit (groupAt (x / 90) 12 (x / 5 % 18)) (x % 5) ≡ digit (groupAt p n (k / 5)) (k % 5) =
     ap₂ digit (ap₂ (λ (q r : ℕ). groupAt q 12 r) ep ej ∙ entry-group n (k / 5) p h) es in
-    omega (arith, t, e)
+    subst₂ _≤_ e (ap most ej) t
+
+pub copies-le : (p n k : ℕ) → p < 28 → k < 5 * (n + 6) → copies p n k ≤ 3
+unfolding most
+copies-le p n k h l = omega (arith, copies-most p n k h l, least (ltb (entryOf n (k / 5)) 12))
+  where
+    least : (t : Bool) → choose t 1 3 ≤ 3
+    least true = omega arith
+    least false = omega arith
+
+pub data-once : (p n k : ℕ) → p < 28 → k < 5 * n → copies p n k < 2
+unfolding most
+data-once p n k h l =
+    let d : entryOf n (k / 5) < 12 = omega (arith, entry-data n (k / 5) (omega arith)) in
+    omega (arith, copies-most p n k h (omega arith), choose-true {A = ℕ} 1 3 (lt-ltb (entryOf n (k / 5)) 12 d))
+
+-- the tail's first symbol is sent under every pattern
+begun : ℕ → Bool
+begun p = ltb 0 (digit (tailGroup p 0) 0)
+
+all-begun : T (allBelow begun 28)
+unfolding begun tailGroup digit tailRows
+all-begun = tt
+
+pub tail-sent : (p n : ℕ) → p < 28 → 0 < copies p n (5 * n)
+unfolding begun
+tail-sent p n h =
+    let e : copies p n (5 * n + 0) ≡ digit (tailGroup p 0) 0 = copies-tail p n 0 in
+    let t : 0 < digit (tailGroup p 0) 0 = ltb→lt 0 (digit (tailGroup p 0) 0) (at-all begun 28 all-begun p h) in
+    subst (λ (x : ℕ). 0 < x) (sym (ap (copies p n) (sym (add-zero (5 * n))) ∙ e)) t

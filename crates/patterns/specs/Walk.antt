@@ -2,7 +2,7 @@
 -- Assumes nothing.
 use Prim.Native.Nat.{ℕ, _+_, _-_, _*_, _/_, _%_, _^_}
 use mathlib.Core.List.{List}
-use lib.Dec.{ltb, eqb}
+use lib.Dec.{ltb}
 use Rattle.ground.specs.Choice.{choose}
 use Rattle.ground.specs.Table.{tab}
 use Rattle.patterns.specs.Rows.{groupAt}
@@ -10,10 +10,6 @@ use Rattle.patterns.specs.Rows.{groupAt}
 -- the entries: the groups of a lane of twelve data groups
 unfoldable pub entries : ℕ → List ℕ
 entries p = tab (groupAt p 12) 0 18
-
--- the entry of the group i of a lane of n data groups, where j is that of the group before it: at the group n the tail's first; after the last of the data their first again; else the next
-unfoldable pub nextEntry : ℕ → ℕ → ℕ → ℕ
-nextEntry n i j = choose (eqb i n) 12 (choose (eqb j 11) 0 (choose (ltb j 18) (j + 1) 0))
 
 -- What follows is promised by functions inside alone.
 

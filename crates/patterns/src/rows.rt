@@ -1,8 +1,8 @@
-// The puncturing rows (tables 7 and 8), and the walk over a lane's groups by them.
+// The puncturing rows (tables 7 and 8).
 ghost use mathlib.Core.Path.{_≡_};
 ghost use Prim.Native.Nat.{_<_};
 ghost use Rattle.patterns.specs.Rows.{digit};
-ghost use Rattle.patterns.specs.Walk.{entries, nextEntry, spaced, entryFrom};
+ghost use Rattle.patterns.specs.Walk.{entries, spaced, entryFrom};
 
 // The data rows by pattern number. A group is five bits, X Y0 Y1 Y'0 Y'1; the row is repeated up to twelve groups, which every row's length divides.
 const DATA: [u64; 28] = [
@@ -107,19 +107,6 @@ pub fn entries(pattern: usize) -> [u16; 18]
         j += 1;
     }
     t
-}
-
-// The entry of the group i of a lane of n data groups, where j is that of the group before.
-pub fn next_entry(n: usize, i: usize, j: usize) -> usize
-    ensures { λ r. ⌜ r ≡ nextEntry n i j ⌝ }
-{
-    if i == n {
-        return 12;
-    }
-    if j == 11 {
-        return 0;
-    }
-    if j < 18 { j + 1 } else { 0 }
 }
 
 // How often the symbol s of a group is sent.

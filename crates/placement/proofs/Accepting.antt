@@ -29,17 +29,21 @@ pub received-is : (p n : ℕ) (values : List ℤ) (k : ℕ) → k < places n →
 unfolding sent
 received-is p n values k h = received-run (copies p n) values k (places n) h
 
-pub placed-is : (p n : ℕ) (values lane : List ℤ) → Placed p n values lane → lane ≡ placed p n values
+pub placed-is : (p n : ℕ) (values lane : List ℤ) {at : ℕ} → Placed p n values lane at (places n) → lane ≡ placed p n values
 unfolding placed
 placed-is p n values lane h =
     tab-ext (λ k. held (receivedFrom (sent p n) values k)) (pos 0) (places n) lane (h .len) (λ k l. h .holds k l ∙ ap held (sym (received-is p n values k l)))
+
+-- what placing asks still holds of a lane in which places are filled
+pub placeable-still : {p n : ℕ} {values lane lane' : List ℤ} {at q : ℕ} → Placeable p n values lane → Placed p n values lane' at q → Placeable p n values lane'
+placeable-still h u = record { pattern = h .pattern; some = h .some; most = h .most; all = h .all; room = u .len }
 
 -- a refusal leaves the lane as it was
 pub refused : (p r : ℕ) (values lane : List ℤ) → r ≡ firstOf (faults p (blockOf lane) (length values)) → (r ≡ 0 → ⊥) → Is (placing p values lane) r lane
 unfolding placing
 refused p r values lane e h = refusal-leaves (firstOf (faults p (blockOf lane) (length values))) (placed p (blockOf lane) values) lane e h
 
-pub wrote : (p n : ℕ) (values lane lane' : List ℤ) → n ≡ blockOf lane → firstOf (faults p (blockOf lane) (length values)) ≡ 0 → Placed p n values lane'
+pub wrote : (p n : ℕ) (values lane lane' : List ℤ) {at : ℕ} → n ≡ blockOf lane → firstOf (faults p (blockOf lane) (length values)) ≡ 0 → Placed p n values lane' at (places n)
     → Is (placing p values lane) 0 lane'
 unfolding placing
 wrote p n values lane lane' en z h =

@@ -1,6 +1,6 @@
 -- Laws of placement by groups: one symbol more, and one group more of a lane.
 -- Assumes nothing.
-use Prim.Native.Nat.{ℕ, zero, suc, _+_, _*_, _≤_, _<_}
+use Prim.Native.Nat.{ℕ, zero, suc, _+_, _*_, _/_, _%_, _≤_, _<_}
 use mathlib.Core.Path.{_≡_, refl, sym, ap, ap₂, _∙_, subst, subst₂}
 use mathlib.Core.List.{List}
 use native.Mathlib.Nat.{add-zero, add-assoc}
@@ -16,9 +16,9 @@ use Rattle.patterns.specs.Rows.{digit, copies}
 use Rattle.patterns.specs.Sent.{places, total}
 use Rattle.patterns.specs.Walk.{entries}
 use Rattle.patterns.proofs.Totals.{total-zero, total-more, total-mono, total-cong, total-add}
-use Rattle.patterns.proofs.Groups.{entryOf, entry-digit}
+use Rattle.patterns.proofs.Groups.{entryOf, entry-data, entry-tail, entry-digit, data-once, tail-sent}
 use Rattle.placement.specs.Place.{held}
-use Rattle.placement.specs.Inside.{run, placedGroup, Placeable}
+use Rattle.placement.specs.Inside.{run, Once, placedGroup, Placeable, Placed}
 
 module _ (values : List ℤ) (at counts : ℕ) (lane : List ℤ) (k : ℕ) where
   pub group-none : Is (placedGroup values at counts lane k 0) at lane
@@ -49,34 +49,31 @@ module _ (values : List ℤ) (at counts : ℕ) (lane : List ℤ) (k : ℕ) where
   group-at zero = sym (add-zero at)
   group-at (suc j) = ap (λ (x : ℕ). x + digit counts j) (group-at j) ∙ add-assoc at (total (digit counts) j) (digit counts j)
 
--- the places below q hold the sums of their values, and the next value stands behind all of those
-pub record Upto (c : ℕ → ℕ) (values lane₀ lane : List ℤ) (at q : ℕ) : Type 0 where
-  pub len : length lane ≡ length lane₀
-  pub next : at ≡ total c q
-  pub holds : (k : ℕ) → k < q → getD lane k (pos 0) ≡ held (run values (total c k) (c k))
+module _ (p n : ℕ) (values : List ℤ) where
+  pub placed-none : (lane : List ℤ) → length lane ≡ places n → Placed p n values lane 0 0
+  placed-none lane e =
+      record { len = e; next = sym (total-zero (copies p n)); holds = below-none (λ k. getD lane k (pos 0) ≡ held (run values (total (copies p n) k) (copies p n k))) }
 
-module _ (c : ℕ → ℕ) (values lane₀ : List ℤ) where
-  pub upto-none : Upto c values lane₀ lane₀ 0 0
-  upto-none = record { len = refl; next = sym (total-zero c); holds = below-none (λ k. getD lane₀ k (pos 0) ≡ held (run values (total c k) (c k))) }
+  -- one place more
+  pub placed-more : (lane : List ℤ) (at q m : ℕ) (h : ℤ) → Placed p n values lane at q → q < places n → m ≡ copies p n q → h ≡ held (run values at m)
+      → Placed p n values (set lane q h) (at + m) (q + 1)
+  placed-more lane at q m h u l em eh =
+      record {
+        len = length-set lane q h ∙ u .len;
+        next = ap₂ _+_ (u .next) em ∙ sym (total-more (copies p n) q);
+        holds = fill-more (λ k. held (run values (total (copies p n) k) (copies p n k))) (pos 0) lane q h (omega (arith, u .len)) (eh ∙ ap₂ (λ (x y : ℕ). held (run values x y)) (u .next) em) (u .holds);
+      }
 
-  -- one group more: its digits are how often the five places from 5 i on are sent
-  pub upto-group : (lane : List ℤ) (at i counts : ℕ) → Upto c values lane₀ lane at (5 * i) → 5 * i + 5 ≤ length lane₀ → ((j : ℕ) → j < 5 → digit counts j ≡ c (5 * i + j))
-      → (j : ℕ) → j ≤ 5 → Upto c values lane₀ (placedGroup values at counts lane (5 * i) j .memory) (placedGroup values at counts lane (5 * i) j .answer) (5 * i + j)
+  -- the first j places of a group more: its digits are how often the five places from 5 i on are sent
+  placed-symbols : (lane : List ℤ) (at i counts : ℕ) → Placed p n values lane at (5 * i) → 5 * i + 5 ≤ places n → ((j : ℕ) → j < 5 → digit counts j ≡ copies p n (5 * i + j))
+      → (j : ℕ) → j ≤ 5 → Placed p n values (placedGroup values at counts lane (5 * i) j .memory) (placedGroup values at counts lane (5 * i) j .answer) (5 * i + j)
   unfolding placedGroup
-  upto-group lane at i counts u room ec zero l = subst (Upto c values lane₀ lane at) (sym (add-zero (5 * i))) u
-  upto-group lane at i counts u room ec (suc j) l =
+  placed-symbols lane at i counts u room ec zero l = subst (Placed p n values lane at) (sym (add-zero (5 * i))) u
+  placed-symbols lane at i counts u room ec (suc j) l =
       let o : Outcome ℕ (List ℤ) = placedGroup values at counts lane (5 * i) j in
-      let h : Upto c values lane₀ (o .memory) (o .answer) (5 * i + j) = upto-group lane at i counts u room ec j (omega arith) in
-      let d : digit counts j ≡ c (5 * i + j) = ec j (omega arith) in
       let e : 5 * i + j + 1 ≡ 5 * i + suc j = omega arith in
-      let m : List ℤ = set (o .memory) (5 * i + j) (held (run values (o .answer) (digit counts j))) in
-      subst (Upto c values lane₀ m (o .answer + digit counts j)) e
-      (record {
-        len = length-set (o .memory) (5 * i + j) (held (run values (o .answer) (digit counts j))) ∙ h .len;
-        next = ap₂ _+_ (h .next) d ∙ sym (total-more c (5 * i + j));
-        holds = fill-more (λ k. held (run values (total c k) (c k))) (pos 0) (o .memory) (5 * i + j) (held (run values (o .answer) (digit counts j))) (omega (arith, h .len))
-            (ap₂ (λ (x n : ℕ). held (run values x n)) (h .next) d) (h .holds);
-      })
+      subst (Placed p n values (set (o .memory) (5 * i + j) (held (run values (o .answer) (digit counts j)))) (o .answer + digit counts j)) e
+      (placed-more (o .memory) (o .answer) (5 * i + j) (digit counts j) _ (placed-symbols lane at i counts u room ec j (omega arith)) (omega arith) (ec j (omega arith)) refl)
 
 -- how many values a group takes
 group-total : (c : ℕ → ℕ) (i counts : ℕ) → ((j : ℕ) → j < 5 → digit counts j ≡ c (5 * i + j)) → total c (5 * i) + total (digit counts) 5 ≡ total c (5 * (i + 1))
@@ -84,20 +81,35 @@ group-total c i counts ec =
     let e : 5 * i + 5 ≡ 5 * (i + 1) = omega arith in
     ap (λ (x : ℕ). total c (5 * i) + x) (total-cong (digit counts) (λ j. c (5 * i + j)) 5 ec) ∙ sym (total-add c (5 * i) 5) ∙ ap (total c) e
 
-module _ (p n : ℕ) (values lane₀ : List ℤ) (h : Placeable p n values lane₀) (i counts : ℕ) (l : i < n + 6) (ec : counts ≡ getD (entries p) (entryOf n i) 0) where
-  digits : (j : ℕ) → j < 5 → digit counts j ≡ copies p n (5 * i + j)
-  digits j b = ap (λ (x : ℕ). digit x j) ec ∙ entry-digit p n i j (h .pattern) l b
+-- the tail's first place is sent, so that a value follows those of the data
+after-data : (p n : ℕ) → p < 28 → total (copies p n) (5 * n) < total (copies p n) (places n)
+after-data p n h =
+    omega (arith, total-more (copies p n) (5 * n), tail-sent p n h, total-mono (copies p n) (5 * n + 1) (places n) (omega arith))
 
-  -- there are values enough for a group
-  pub lane-room : (lane : List ℤ) (at : ℕ) → Upto (copies p n) values lane₀ lane at (5 * i) → at + total (digit counts) 5 ≤ length values
-  lane-room lane at u =
-      omega (arith, u .next, group-total (copies p n) i counts digits, total-mono (copies p n) (5 * (i + 1)) (places n) (omega arith), h .all)
+module _ (p n : ℕ) (values lane₀ : List ℤ) (h : Placeable p n values lane₀) (i counts : ℕ) (l : i < n) (ec : counts ≡ getD (entries p) (i % 12) 0) where
+  digits : (j : ℕ) → j < 5 → digit counts j ≡ copies p n (5 * i + j)
+  digits j b = ap (λ (x : ℕ). digit x j) (ec ∙ ap (λ (x : ℕ). getD (entries p) x 0) (sym (entry-data n i l))) ∙ entry-digit p n i j (h .pattern) (omega arith) b
+
+  pub group-once : Once counts
+  group-once j b = subst (λ (x : ℕ). x < 2) (sym (digits j b)) (data-once p n (5 * i + j) (h .pattern) (omega arith))
+
+  -- there are values enough for a group, and one more
+  pub group-room : (lane : List ℤ) (at : ℕ) → Placed p n values lane at (5 * i) → at + total (digit counts) 5 < length values
+  group-room lane at u =
+      omega (arith, u .next, group-total (copies p n) i counts digits, total-mono (copies p n) (5 * (i + 1)) (5 * n) (omega arith), after-data p n (h .pattern), h .all)
 
   -- one group more of a lane
-  pub lane-more : (lane : List ℤ) (at r : ℕ) (m : List ℤ) → Upto (copies p n) values lane₀ lane at (5 * i) → Is (placedGroup values at counts lane (5 * i) 5) r m
-      → Upto (copies p n) values lane₀ m r (5 * (i + 1))
-  lane-more lane at r m u q =
+  pub placed-group : (lane : List ℤ) (at r : ℕ) (m : List ℤ) → Placed p n values lane at (5 * i) → Is (placedGroup values at counts lane (5 * i) 5) r m
+      → Placed p n values m r (5 * (i + 1))
+  placed-group lane at r m u q =
       let e : 5 * i + 5 ≡ 5 * (i + 1) = omega arith in
-      subst (Upto (copies p n) values lane₀ m r) e
-      (subst₂ (λ (y : List ℤ) (z : ℕ). Upto (copies p n) values lane₀ y z (5 * i + 5)) (sym (q .memory)) (sym (q .answer))
-      (upto-group (copies p n) values lane₀ lane at i counts u (omega (arith, h .room)) digits 5 (omega arith)))
+      subst (Placed p n values m r) e
+      (subst₂ (λ (y : List ℤ) (z : ℕ). Placed p n values y z (5 * i + 5)) (sym (q .memory)) (sym (q .answer))
+      (placed-symbols p n values lane at i counts u (omega arith) digits 5 (omega arith)))
+
+-- how often the place k of the tail is sent, by the tail's six entries
+pub tail-digit : (p n k : ℕ) → p < 28 → k < 30 → digit (getD (entries p) (12 + k / 5) 0) (k % 5) ≡ copies p n (5 * n + k)
+tail-digit p n k h l =
+    let e : entryOf n (n + k / 5) ≡ 12 + k / 5 = entry-tail n (n + k / 5) (omega arith) ∙ omega arith in
+    let f : 5 * (n + k / 5) + k % 5 ≡ 5 * n + k = omega arith in
+    ap (λ (x : ℕ). digit (getD (entries p) x 0) (k % 5)) (sym e) ∙ entry-digit p n (n + k / 5) (k % 5) h (omega arith) (omega arith) ∙ ap (copies p n) f

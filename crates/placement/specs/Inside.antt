@@ -14,6 +14,10 @@ use Rattle.placement.specs.Place.{held}
 abbrev pub run : List ℤ → ℕ → ℕ → List ℤ
 run values at n = take n (drop at values)
 
+-- no symbol of a group is sent twice
+abbrev pub Once : ℕ → Type 0
+Once counts = (j : ℕ) → j < 5 → digit counts j < 2
+
 -- the first j symbols of a group are placed, from the place k on, and the values are taken from a place on
 unfoldable pub placedGroup : List ℤ → ℕ → ℕ → List ℤ → ℕ → ℕ → Outcome ℕ (List ℤ)
 placedGroup values at counts lane k zero = record { answer = at; memory = lane }
@@ -29,7 +33,8 @@ pub record Placeable (p n : ℕ) (values lane : List ℤ) : Type 0 where
   pub all : total (copies p n) (places n) ≡ length values
   pub room : length lane ≡ places n
 
--- each place holds the sum of its values, which stand behind those of the places before it
-pub record Placed (p n : ℕ) (values lane : List ℤ) : Type 0 where
+-- each place below q holds the sum of its values, which stand behind those of the places before it; the next value's place is at
+pub record Placed (p n : ℕ) (values lane : List ℤ) (at q : ℕ) : Type 0 where
   pub len : length lane ≡ places n
-  pub holds : (k : ℕ) → k < places n → getD lane k (pos 0) ≡ held (run values (total (copies p n) k) (copies p n k))
+  pub next : at ≡ total (copies p n) q
+  pub holds : (k : ℕ) → k < q → getD lane k (pos 0) ≡ held (run values (total (copies p n) k) (copies p n k))

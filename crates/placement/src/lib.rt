@@ -1,14 +1,15 @@
 // Placement: received values go to the places of the encoder's output from which they were sent (clauses 4.4.2 and 4.4.3).
 ghost use mathlib.Core.Path.{_≡_};
-ghost use Prim.Native.Nat.{_+_, _<_, _≤_};
+ghost use Prim.Native.Nat.{_+_, _*_, _<_, _≤_};
 ghost use lib.IntN.{_+ℤ_};
-ghost use lib.ListN.{length};
+ghost use mathlib.Core.List.{[], _∷_};
+ghost use lib.ListN.{length, take};
 ghost use lib.Signed.{mag};
 ghost use Rattle.ground.specs.Outcome.{Is};
 ghost use Rattle.patterns.specs.Rows.{digit};
-ghost use Rattle.patterns.specs.Sent.{total};
+ghost use Rattle.patterns.specs.Sent.{places, total};
 ghost use Rattle.placement.specs.Place.{held, placing};
-ghost use Rattle.placement.specs.Inside.{run, placedGroup, Placeable, Placed};
+ghost use Rattle.placement.specs.Inside.{run, Once, placedGroup, Placeable, Placed};
 
 // A sum with one value more.
 fn added(sum: i16, value: i8) -> i16
@@ -32,36 +33,60 @@ fn held(values: &[i8], at: usize, n: u8) -> i16
     sum
 }
 
-// The five places of a group, from the place k on; returns the next value's place.
+// What a place holds that is sent at most once: its value, or nothing. It multiplies, since a branch on a row's digits would be mispredicted too often.
+fn once(value: i8, n: u8) -> i16
+    requires { ⌜ n < 2 ⌝ }
+    ensures { λ r. ⌜ r ≡ held (take n (value ∷ [])) ⌝ }
+{
+    value as i16 * n as i16
+}
+
+// The five places of a data group, from the place k on; returns the next value's place. A value follows the group's: the tail's.
 fn place_group(values: &[i8], at: usize, counts: u16, lane: &mut [i16], k: usize) -> usize
-    requires { ⌜ (at + total (digit counts) 5 ≤ length (now values)) × (k + 5 ≤ length (now lane)) ⌝ }
+    requires { ⌜ (at + total (digit counts) 5 < length (now values)) × (k + 5 ≤ length (now lane)) × Once counts ⌝ }
     ensures { λ r. ⌜ Is (placedGroup (now (values .entry)) at counts (now (lane .entry)) k 5) r (now (lane .exit)) ⌝ }
 {
     let mut v = at;
     let mut j = 0;
     while j < 5 {
         let n = patterns::rows::digit(counts, j);
-        lane[k + j] = held(values, v, n);
+        lane[k + j] = once(values[v], n);
         v += n as usize;
         j += 1;
     }
     v
 }
 
-// All places of a lane of n data groups and the six of the tail.
-fn place_all(pattern: usize, n: usize, values: &[i8], lane: &mut [i16])
+// The places of the data's n groups; returns the next value's place.
+fn place_data(pattern: usize, n: usize, values: &[i8], lane: &mut [i16]) -> usize
     requires { ⌜ Placeable pattern n (now values) (now lane) ⌝ }
-    ensures { λ _. ⌜ Placed pattern n (now (values .entry)) (now (lane .exit)) ⌝ }
+    ensures { λ r. ⌜ Placed pattern n (now (values .entry)) (now (lane .exit)) r (5 * n) ⌝ }
 {
     let entries = patterns::rows::entries(pattern);
-    let end = n + 6;
     let mut at = 0;
     let mut i = 0;
     let mut j = 0;
-    while i < end {
+    while i < n {
         at = place_group(values, at, entries[j], lane, 5 * i);
         i += 1;
-        j = patterns::rows::next_entry(n, i, j);
+        j = if j == 11 { 0 } else { j + 1 };
+    }
+    at
+}
+
+// The thirty places of the tail, the data's being placed.
+fn place_tail(pattern: usize, n: usize, values: &[i8], at: usize, lane: &mut [i16])
+    requires { ⌜ Placeable pattern n (now values) (now lane) × Placed pattern n (now values) (now lane) at (5 * n) ⌝ }
+    ensures { λ _. ⌜ Placed pattern n (now (values .entry)) (now (lane .exit)) (length (now (values .entry))) (places n) ⌝ }
+{
+    let entries = patterns::rows::entries(pattern);
+    let mut v = at;
+    let mut k = 0;
+    while k < 30 {
+        let c = patterns::rows::digit(entries[12 + k / 5], k % 5);
+        lane[5 * n + k] = held(values, v, c);
+        v += c as usize;
+        k += 1;
     }
 }
 
@@ -83,6 +108,7 @@ pub fn place(pattern: u32, values: &[i8], lane: &mut [i16]) -> u8
     if values.len() != patterns::code_length(p, n) {
         return ground::LENGTH_WRONG;
     }
-    place_all(p, n, values, lane);
+    let at = place_data(p, n, values, lane);
+    place_tail(p, n, values, at, lane);
     0
 }

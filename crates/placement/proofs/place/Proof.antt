@@ -14,7 +14,8 @@ use Rattle.patterns.specs.Blocks.{blockFaults}
 use Rattle.patterns.specs.Sent.{codeLength}
 use Rattle.patterns.proofs.Blocks.{block-le, fit-after}
 use Rattle.placement.specs.Place.{blockOf, faults}
-use Rattle.placement.proofs.Accepting.{placeable, refused, wrote}
+use Rattle.placement.specs.Inside.{Placeable}
+use Rattle.placement.proofs.Accepting.{placeable, placeable-still, refused, wrote}
 use borrow.Author.Needs.{needs}
 use Rattle.placement.proofs.place.Statement.{statement}
 use Rattle.placement.proofs.place.Tie as tie
@@ -23,7 +24,8 @@ use Rattle.placement.proofs.place.Lts as lts
 use Rattle.patterns.proofs.block_by.Reads as block-by-reads
 use Rattle.patterns.proofs.code_length.Reads as code-length-reads
 use Rattle.patterns.proofs.unfit.Reads as unfit-reads
-use Rattle.placement.proofs.place_all.Reads as place-all-reads
+use Rattle.placement.proofs.place_data.Reads as place-data-reads
+use Rattle.placement.proofs.place_tail.Reads as place-tail-reads
 
 block-by-requires : tie.Need-block-by-requires
 block-by-requires c κs = search needs
@@ -79,11 +81,18 @@ returns-2 c =
     let e : 1 ≡ firstOf (last (a .pattern) (c .before .before .before .before .block-by .result) (length (a .values .now))) = simp (sym (size (c .before)), ne-eqb _ _ (c .if2 .taken)) in
     refused (a .pattern) 1 (a .values .now) (a .lane .now) (block-answer (c .before .before .before .before) (e ∙ sym (late (c .before .before)))) (λ z. omega arith)
 
-place-all-requires : tie.Need-place-all-requires
-place-all-requires c κs =
+asked : (c : tie.After-place-data-arg)
+    → Placeable (c .before .before .before .before .before .before .args .pattern) (c .before .before .before .before .before .block-by .result) (c .before .before .before .before .before .before .args .values .now) (c .before .before .before .before .before .before .args .lane .now)
+asked c =
     let a = c .before .before .before .before .before .before .args in
     let b = c .before .before .before .before .before in
     placeable (a .pattern) (b .block-by .result) (a .values .now) (a .lane .now) (b .block-by .ensures) (fits (c .before .before .before)) (c .before .if2 .left ∙ size (c .before .before))
+
+place-data-requires : tie.Need-place-data-requires
+place-data-requires c κs = asked c
+
+place-tail-requires : tie.Need-place-tail-requires
+place-tail-requires c κs = let d = c .before .before .place-data .ensures in (placeable-still (asked (c .before .before .before)) d, d)
 
 same-length : tie.Need-same-length
 same-length c = search needs
@@ -91,11 +100,11 @@ same-length c = search needs
 returns-3 : tie.Need-returns-3
 unfolding last
 returns-3 c =
-    let t = c .before .before .before in
+    let t = c .before .before .before .before .before .before in
     let b = t .before .before .before .before in
     let a = b .before .args in
     let e : 0 ≡ firstOf (last (a .pattern) (b .block-by .result) (length (a .values .now))) = simp (sym (size (t .before)), eq-eqb _ _ (t .if2 .left)) in
-    wrote (a .pattern) (b .block-by .result) (a .values .now) (a .lane .now) _ (b .block-by .ensures) (sym (block-answer b (e ∙ sym (late (t .before .before))))) (c .before .place-all .ensures)
+    wrote (a .pattern) (b .block-by .result) (a .values .now) (a .lane .now) _ (b .block-by .ensures) (sym (block-answer b (e ∙ sym (late (t .before .before))))) (c .before .place-tail .ensures)
 
 pub place-spec : {M : Type 1} → statement M
 place-spec =
@@ -106,6 +115,7 @@ place-spec =
     returns
     code-length-requires
     returns-2
-    place-all-requires
+    place-data-requires
+    place-tail-requires
     same-length
     returns-3)
