@@ -61,7 +61,7 @@ shared-slice-copy-out-once : tie.Need-shared-slice-copy-out-once Inv-loop μ-loo
 shared-slice-copy-out-once c = omega (arith, enough c)
 
 once-requires : tie.Need-once-requires Inv-loop μ-loop
-once-requires c κs = few (c .before)
+once-requires c κs = omega (arith, few (c .before))
 
 add-t13 : tie.Need-add-t13 Inv-loop μ-loop
 add-t13 c = omega (arith, c .before .before .before .before .before .pre .1, c .before .before .before .loop-test .taken)

@@ -55,7 +55,7 @@ sent c =
     let b = c .before .before .before .before in
     let k : ℕ = c .before .before .loop .k in
     c .digit .ensures ∙ ap (λ (x : List ℕ). digit (getD x (12 + k / 5) 0) (k % 5)) (c .before .before .before .entries .ensures)
-    ∙ tail-digit (b .args .pattern) (b .args .n) k (b .pre .0 .pattern) (c .before .loop-test .taken)
+    ∙ tail-digit (b .args .pattern) (b .args .n) k (b .pre .0 .pattern) (omega (arith, c .before .loop-test .taken))
 
 small : (c : tie.After-digit Inv-loop μ-loop) → c .digit .result ≤ 3
 small c =
