@@ -18,27 +18,11 @@ use Rattle.patterns.proofs.block_by.Reads as block-by-reads
 use Rattle.patterns.proofs.unfit as unfit
 use Rattle.patterns.proofs.unfit.Kinds as unfit-kinds
 use Rattle.patterns.proofs.unfit.Reads as unfit-reads
-use Rattle.patterns.proofs.rows.entries as entries
-use Rattle.patterns.proofs.rows.entries.Kinds as entries-kinds
-use Rattle.patterns.proofs.rows.entries.Reads as entries-reads
-use Rattle.patterns.proofs.rows.digit as digit
-use Rattle.patterns.proofs.rows.digit.Kinds as digit-kinds
-use Rattle.patterns.proofs.rows.digit.Reads as digit-reads
 
 module _ (κs : Lfts 0) (a : ArgsD units.signature κs) where
   pub units-agrees : (r r′ : ResD units.signature κs) (s s′ : AtExit (endedOf 0 units-kinds.ps units-kinds.r) κs) →
       units-reads.Post κs a r s → units-reads.Post κs a r′ s′ → r ≡ r′
   units-agrees r r′ s s′ p q = same p q
-
-module _ (κs : Lfts 0) (a : ArgsD entries.signature κs) where
-  pub entries-agrees : (r r′ : ResD entries.signature κs) (s s′ : AtExit (endedOf 0 entries-kinds.ps entries-kinds.r) κs) →
-      entries-reads.Post κs a r s → entries-reads.Post κs a r′ s′ → r ≡ r′
-  entries-agrees r r′ s s′ p q = same p q
-
-module _ (κs : Lfts 0) (a : ArgsD digit.signature κs) where
-  pub digit-agrees : (r r′ : ResD digit.signature κs) (s s′ : AtExit (endedOf 0 digit-kinds.ps digit-kinds.r) κs) →
-      digit-reads.Post κs a r s → digit-reads.Post κs a r′ s′ → r ≡ r′
-  digit-agrees r r′ s s′ p q = same p q
 
 module _ (κs : Lfts 0) (a : ArgsD code-length.signature κs) where
   pub code-length-agrees : (r r′ : ResD code-length.signature κs) (s s′ : AtExit (endedOf 0 code-length-kinds.ps code-length-kinds.r) κs) →

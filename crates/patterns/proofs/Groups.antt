@@ -4,7 +4,7 @@ use Prim.Native.Nat.{ℕ, _+_, _-_, _*_, _/_, _%_, _≤_, _<_}
 use mathlib.Core.Path.{_≡_, sym, ap, ap₂, _∙_, subst, subst₂}
 use mathlib.Core.Bool.{Bool, true, false}
 use mathlib.Core.List.{[]}
-use native.Mathlib.Nat.{mod-mod-of-dvd, dvd-of-mod-eq-zero, zero-add, add-zero}
+use native.Mathlib.Nat.{mod-mod-of-dvd, dvd-of-mod-eq-zero, add-zero}
 use native.Mathlib.Decide.{decLt}
 use native.Mathlib.Omega.{arith}
 use lib.Dec.{T, eqb, ltb, leb, eqb→eq, leb→le, ltb→lt}
@@ -13,9 +13,8 @@ use borrow.Author.Tests.{lt-ltb, le-ltb}
 use Rattle.ground.specs.Choice.{choose}
 use Rattle.ground.specs.Table.{allBelow}
 use Rattle.ground.proofs.Choice.{choose-true, choose-false}
-use Rattle.ground.proofs.Table.{at-all, getD-tab}
+use Rattle.ground.proofs.Table.{at-all}
 use Rattle.patterns.specs.Rows.{dataRows, tailRows, dataGroup, tailGroup, groupAt, digit, copies}
-use Rattle.patterns.specs.Walk.{entries}
 
 pub digit-lt : (x s : ℕ) → digit x s < 8
 unfolding digit
@@ -98,13 +97,6 @@ module _ (n i : ℕ) where
             ap (groupAt p 12) (entry-tail (omega arith))
             ∙ group-tail p 12 (12 + (i - n)) (omega arith) ∙ ap (tailGroup p) e ∙ sym (group-tail p n i (omega arith)))
       ]
-
--- what stands at a group's entry says how often its symbols are sent
-pub entry-digit : (p n i s : ℕ) → p < 28 → i < n + 6 → s < 5 → digit (getD (entries p) (entryOf n i) 0) s ≡ copies p n (5 * i + s)
-unfolding entries
-entry-digit p n i s hp hi hs =
-    ap (λ (x : ℕ). digit x s) (getD-tab (groupAt p 12) 0 0 18 (entryOf n i) (entry-lt n i hi) ∙ ap (groupAt p 12) (zero-add (entryOf n i)) ∙ entry-group n i p hp)
-    ∙ sym (copies-symbol p n i s hs)
 
 -- no symbol of a data group is sent twice, and none of the tail more than three times: the symbol x % 5 of the entry x / 5 % 18 of the pattern x / 90
 most : ℕ → ℕ

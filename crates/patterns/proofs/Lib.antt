@@ -1,7 +1,6 @@
 pub mod Rates
 pub mod Blocks
 pub mod Groups
-pub mod Packed
 pub mod Totals
 pub mod Spread
 pub mod Length

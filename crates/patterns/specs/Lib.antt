@@ -2,5 +2,4 @@ pub mod Rates
 pub mod Blocks
 pub mod Rows
 pub mod Sent
-pub mod Walk
 pub mod Length

@@ -1,5 +1,4 @@
 // The puncturing patterns of the turbo code.
-pub mod rows;
 
 use ground::LENGTH_WRONG;
 use ground::PATTERN_ABOVE_27;

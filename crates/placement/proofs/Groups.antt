@@ -14,9 +14,10 @@ use Rattle.ground.proofs.Outcome.{gave}
 use Rattle.ground.proofs.Fill.{fill-more}
 use Rattle.patterns.specs.Rows.{digit, copies}
 use Rattle.patterns.specs.Sent.{places, total}
-use Rattle.patterns.specs.Walk.{entries}
+use Rattle.puncturing.specs.Entries.{entries}
 use Rattle.patterns.proofs.Totals.{total-zero, total-more, total-mono, total-cong, total-add}
-use Rattle.patterns.proofs.Groups.{entryOf, entry-data, entry-tail, entry-digit, data-once, tail-sent}
+use Rattle.patterns.proofs.Groups.{entryOf, entry-data, entry-tail, data-once, tail-sent}
+use Rattle.puncturing.proofs.Lanes.{entry-digit}
 use Rattle.placement.specs.Place.{held}
 use Rattle.placement.specs.Inside.{run, Once, placedGroup, Placeable, Placed}
 

@@ -49,7 +49,7 @@ fn place_group(values: &[i8], at: usize, counts: u16, lane: &mut [i16], k: usize
     let mut v = at;
     let mut j = 0;
     while j < 5 {
-        let n = patterns::rows::digit(counts, j);
+        let n = puncturing::digit(counts, j);
         lane[k + j] = once(values[v], n);
         v += n as usize;
         j += 1;
@@ -62,7 +62,7 @@ fn place_data(pattern: usize, n: usize, values: &[i8], lane: &mut [i16]) -> usiz
     requires { ⌜ Placeable pattern n (now values) (now lane) ⌝ }
     ensures { λ r. ⌜ Placed pattern n (now (values .entry)) (now (lane .exit)) r (5 * n) ⌝ }
 {
-    let entries = patterns::rows::entries(pattern);
+    let entries = puncturing::entries(pattern);
     let mut at = 0;
     let mut i = 0;
     let mut j = 0;
@@ -79,11 +79,11 @@ fn place_tail(pattern: usize, n: usize, values: &[i8], at: usize, lane: &mut [i1
     requires { ⌜ Placeable pattern n (now values) (now lane) × Placed pattern n (now values) (now lane) at (5 * n) ⌝ }
     ensures { λ _. ⌜ Placed pattern n (now (values .entry)) (now (lane .exit)) (length (now (values .entry))) (places n) ⌝ }
 {
-    let entries = patterns::rows::entries(pattern);
+    let entries = puncturing::entries(pattern);
     let mut v = at;
     let mut k = 0;
     while k < 30 {
-        let c = patterns::rows::digit(entries[12 + k / 5], k % 5);
+        let c = puncturing::digit(entries[12 + k / 5], k % 5);
         lane[5 * n + k] = held(values, v, c);
         v += c as usize;
         k += 1;

@@ -19,7 +19,7 @@ fn digit_at(rows: &[u16; 18], h: usize, i: usize) -> u8
 {
     if i < 30 {
         let at = 30 * h + i;
-        return patterns::rows::digit(rows[at / 5], at % 5) % 2;
+        return puncturing::digit(rows[at / 5], at % 5) % 2;
     }
     1
 }

@@ -66,7 +66,7 @@ pub fn run_of(rows: &[u16; 18], both: usize) -> Run
         r = more(
             r,
             (symbols >> (29 - k)) % 2,
-            patterns::rows::digit(rows[12 + k / 5], k % 5),
+            puncturing::digit(rows[12 + k / 5], k % 5),
         );
         k += 1;
     }

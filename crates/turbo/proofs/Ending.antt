@@ -24,10 +24,11 @@ use Rattle.bits.proofs.Widens.{wide-put}
 use Rattle.patterns.specs.Blocks.{Coded}
 use Rattle.patterns.specs.Rates.{rates, rateOf}
 use Rattle.patterns.specs.Rows.{dataRows, tailRows, dataGroup, tailGroup, groupAt, digit, copies}
-use Rattle.patterns.specs.Walk.{entries}
+use Rattle.puncturing.specs.Entries.{entries}
 use Rattle.patterns.specs.Sent.{places, spread, total, codeLength}
 use Rattle.patterns.proofs.Blocks.{coded-bounds}
-use Rattle.patterns.proofs.Groups.{entryOf, entry-digit}
+use Rattle.patterns.proofs.Groups.{entryOf}
+use Rattle.puncturing.proofs.Lanes.{entry-digit}
 use Rattle.patterns.specs.Length.{Length}
 use Rattle.patterns.proofs.Length.{length-rule, total-rule}
 use Rattle.patterns.proofs.Totals.{total-add, total-cong}

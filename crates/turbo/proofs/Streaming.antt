@@ -20,11 +20,12 @@ use Rattle.bits.specs.Held.{placeOf}
 use Rattle.bits.proofs.Places.{bit-lt, number-lt, number-cong}
 use Rattle.bits.proofs.Widens.{wide-put}
 use Rattle.patterns.specs.Rows.{dataRows, tailRows, dataGroup, tailGroup, groupAt, digit, copies}
-use Rattle.patterns.specs.Walk.{entries}
+use Rattle.puncturing.specs.Entries.{entries}
 use Rattle.patterns.specs.Sent.{places, spread, total}
 use Rattle.patterns.proofs.Totals.{total-cong, total-add, total-mono, total-zero}
 use Rattle.patterns.proofs.Blocks.{coded-bounds}
-use Rattle.patterns.proofs.Groups.{entryOf, entry-digit}
+use Rattle.patterns.proofs.Groups.{entryOf}
+use Rattle.puncturing.proofs.Lanes.{entry-digit}
 use Rattle.constituent.specs.Constituent.{next, state}
 use Rattle.constituent.specs.Symbols.{dataSymbols}
 use Rattle.turbo.specs.Lane.{second, group, laneBit}

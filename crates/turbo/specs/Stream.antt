@@ -11,7 +11,7 @@ use Rattle.bits.specs.Held.{placeOf, Held}
 use Rattle.bits.specs.Wide.{wider}
 use Rattle.patterns.specs.Blocks.{Coded}
 use Rattle.patterns.specs.Rows.{copies}
-use Rattle.patterns.specs.Walk.{entries}
+use Rattle.puncturing.specs.Entries.{entries}
 use Rattle.patterns.specs.Sent.{places, total}
 use Rattle.constituent.specs.Constituent.{state}
 use Rattle.constituent.specs.declared.State.{State}

@@ -114,7 +114,7 @@ pub fn code(pattern: usize, n: usize, word: &[u8], second: &[u8], out: &mut [u8]
     requires { ⌜ Coded pattern n × (8 * length (now word) ≡ n + 6) × (now second ≡ interleaved n (now word)) × (total (copies pattern n) (places n) ≡ 8 * length (now out)) ⌝ }
     ensures { λ _. ⌜ now (out .exit) ≡ packed (codeBit pattern n (now (word .entry))) (length (now (out .entry))) ⌝ }
 {
-    let rows = patterns::rows::entries(pattern);
+    let rows = puncturing::entries(pattern);
     let plan = tables::plan_of(&rows);
     let look = plan.look;
     let c = send(out, word, second, pattern, n, &look, plan.k0, plan.k1);

@@ -1,5 +1,5 @@
 -- `placement::place_data` meets its contract. Assumes nothing.
-use Prim.Native.Nat.{ℕ, _+_, _-_, _*_, _%_, _≤_, _<_}
+use Prim.Native.Nat.{ℕ, _+_, _-_, _*_, _%_, _≤_}
 use mathlib.Core.Path.{_≡_, sym, ap, _∙_, subst}
 use mathlib.Core.List.{List}
 use native.Mathlib.Nat.{le-antisymm}
@@ -7,14 +7,14 @@ use native.Mathlib.Omega.{arith}
 use lib.IntN.{ℤ}
 use lib.ListN.{getD}
 use Rattle.ground.specs.Outcome.{Is}
-use Rattle.patterns.specs.Walk.{entries}
+use Rattle.puncturing.specs.Entries.{entries}
 use Rattle.placement.specs.Inside.{placedGroup, Placed}
 use Rattle.placement.proofs.Groups.{placed-none, group-once, group-room, placed-group}
 use Rattle.placement.proofs.place_data.Statement.{statement}
 use Rattle.placement.proofs.place_data.Tie as tie
 use Rattle.placement.proofs.place_data.Reads as reads
 use Rattle.placement.proofs.place_data.Lts as lts
-use Rattle.patterns.proofs.rows.entries.Reads as entries-reads
+use Rattle.puncturing.proofs.entries.Reads as entries-reads
 use Rattle.placement.proofs.place_group.Reads as place-group-reads
 
 abbrev Inv-loop : tie.InvT-loop

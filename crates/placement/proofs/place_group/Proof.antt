@@ -20,7 +20,7 @@ use Rattle.placement.proofs.place_group.Statement.{statement}
 use Rattle.placement.proofs.place_group.Tie as tie
 use Rattle.placement.proofs.place_group.Reads as reads
 use Rattle.placement.proofs.place_group.Lts as lts
-use Rattle.patterns.proofs.rows.digit.Reads as digit-reads
+use Rattle.puncturing.proofs.digit.Reads as digit-reads
 use Rattle.placement.proofs.once.Reads as once-reads
 
 abbrev Inv-loop : tie.InvT-loop

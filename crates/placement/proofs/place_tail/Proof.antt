@@ -1,16 +1,15 @@
 -- `placement::place_tail` meets its contract. Assumes nothing.
-use Prim.Native.Nat.{ℕ, _+_, _-_, _*_, _/_, _%_, _≤_, _<_}
+use Prim.Native.Nat.{ℕ, _+_, _-_, _*_, _/_, _%_, _≤_}
 use mathlib.Core.Path.{_≡_, sym, ap, _∙_, subst}
 use mathlib.Core.List.{List}
-use native.Mathlib.Nat.{le-antisymm, add-zero}
+use native.Mathlib.Nat.{add-zero}
 use native.Mathlib.Omega.{arith}
 use lib.ListN.{length, getD}
 use mir.Syntax.{w16}
-use mir.Val.{ofZ, toZ}
 use mir.ValLaws.{toZ-ofZ}
 use Rattle.patterns.specs.Rows.{digit, copies}
 use Rattle.patterns.specs.Sent.{places}
-use Rattle.patterns.specs.Walk.{entries}
+use Rattle.puncturing.specs.Entries.{entries}
 use Rattle.patterns.proofs.Totals.{total-more, total-mono}
 use Rattle.patterns.proofs.Groups.{copies-le}
 use Rattle.placement.specs.Inside.{Placed}
@@ -19,8 +18,8 @@ use Rattle.placement.proofs.place_tail.Statement.{statement}
 use Rattle.placement.proofs.place_tail.Tie as tie
 use Rattle.placement.proofs.place_tail.Reads as reads
 use Rattle.placement.proofs.place_tail.Lts as lts
-use Rattle.patterns.proofs.rows.digit.Reads as digit-reads
-use Rattle.patterns.proofs.rows.entries.Reads as entries-reads
+use Rattle.puncturing.proofs.digit.Reads as digit-reads
+use Rattle.puncturing.proofs.entries.Reads as entries-reads
 use Rattle.placement.proofs.held.Reads as held-reads
 
 abbrev Inv-loop : tie.InvT-loop

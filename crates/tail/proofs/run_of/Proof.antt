@@ -20,7 +20,7 @@ use Rattle.tail.proofs.run_of.Statement.{statement}
 use Rattle.tail.proofs.run_of.Tie as tie
 use Rattle.tail.proofs.run_of.Reads as reads
 use Rattle.tail.proofs.run_of.Lts as lts
-use Rattle.patterns.proofs.rows.digit.Reads as digit-reads
+use Rattle.puncturing.proofs.digit.Reads as digit-reads
 use Rattle.tail.proofs.more.Reads as more-reads
 use Rattle.tail.proofs.tails.Reads as tails-reads
 use Rattle.tail.proofs.wide.Reads as wide-reads

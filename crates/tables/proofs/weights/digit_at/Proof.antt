@@ -8,13 +8,13 @@ use Rattle.constituent.specs.Segment.{digitAt}
 use Rattle.tables.specs.Plan.{halfAt}
 use Rattle.tables.proofs.Weighing.{half-data, half-then}
 use borrow.Author.Needs.{needs}
-use Rattle.patterns.proofs.rows.digit.Reads as digit-reads
+use Rattle.puncturing.proofs.digit.Reads as digit-reads
 use borrow.Author.Needs.{needs}
 use Rattle.tables.proofs.weights.digit_at.Statement.{statement}
 use Rattle.tables.proofs.weights.digit_at.Tie as tie
 use Rattle.tables.proofs.weights.digit_at.Reads as reads
 use Rattle.tables.proofs.weights.digit_at.Lts as lts
-use Rattle.patterns.proofs.rows.digit.Reads as digit-reads
+use Rattle.puncturing.proofs.digit.Reads as digit-reads
 
 mul-at : tie.Need-mul-at
 mul-at c = search needs

@@ -1,17 +1,8 @@
--- The walk over a lane's groups: every data row's length divides 12, so that twelve data groups and the six tail groups stand for all.
+-- What functions inside this crate promise; no public promise cites it.
 -- Assumes nothing.
 use Prim.Native.Nat.{ℕ, _+_, _-_, _*_, _/_, _%_, _^_}
-use mathlib.Core.List.{List}
 use lib.Dec.{ltb}
 use Rattle.ground.specs.Choice.{choose}
-use Rattle.ground.specs.Table.{tab}
-use Rattle.patterns.specs.Rows.{groupAt}
-
--- the entries: the groups of a lane of twelve data groups
-unfoldable pub entries : ℕ → List ℕ
-entries p = tab (groupAt p 12) 0 18
-
--- What follows is promised by functions inside alone.
 
 -- a group of five bits as five octal digits
 unfoldable pub spaced : ℕ → ℕ

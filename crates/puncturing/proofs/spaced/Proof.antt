@@ -1,11 +1,11 @@
--- `patterns::rows::spaced` meets its contract. Assumes nothing.
+-- `puncturing::spaced` meets its contract. Assumes nothing.
 use mathlib.Core.Path.{refl}
-use Rattle.patterns.specs.Walk.{spaced}
+use Rattle.puncturing.specs.Inside.{spaced}
 use borrow.Author.Needs.{needs}
-use Rattle.patterns.proofs.rows.spaced.Statement.{statement}
-use Rattle.patterns.proofs.rows.spaced.Tie as tie
-use Rattle.patterns.proofs.rows.spaced.Reads as reads
-use Rattle.patterns.proofs.rows.spaced.Lts as lts
+use Rattle.puncturing.proofs.spaced.Statement.{statement}
+use Rattle.puncturing.proofs.spaced.Tie as tie
+use Rattle.puncturing.proofs.spaced.Reads as reads
+use Rattle.puncturing.proofs.spaced.Lts as lts
 
 mul-result : tie.Need-mul-result
 mul-result c = search needs

@@ -1,15 +1,15 @@
--- `patterns::rows::digit` meets its contract. Assumes nothing.
+-- `puncturing::digit` meets its contract. Assumes nothing.
 use Prim.Native.Nat.{ℕ, _-_, _/_, _%_, _^_}
 use mathlib.Core.Path.{_≡_, sym, ap, _∙_}
 use native.Mathlib.Nat.{div-one}
 use native.Mathlib.Omega.{arith}
 use Rattle.patterns.specs.Rows.{digit}
-use Rattle.patterns.proofs.Packed.{eights}
+use Rattle.puncturing.proofs.Packed.{eights}
 use borrow.Author.Needs.{needs}
-use Rattle.patterns.proofs.rows.digit.Statement.{statement}
-use Rattle.patterns.proofs.rows.digit.Tie as tie
-use Rattle.patterns.proofs.rows.digit.Reads as reads
-use Rattle.patterns.proofs.rows.digit.Lts as lts
+use Rattle.puncturing.proofs.digit.Statement.{statement}
+use Rattle.puncturing.proofs.digit.Tie as tie
+use Rattle.puncturing.proofs.digit.Reads as reads
+use Rattle.puncturing.proofs.digit.Lts as lts
 
 cast-result : tie.Need-cast-result
 cast-result c = search needs

@@ -1,4 +1,4 @@
--- `patterns::rows::entries` meets its contract. Assumes nothing.
+-- `puncturing::entries` meets its contract. Assumes nothing.
 use Prim.Native.Nat.{ℕ, _+_, _-_, _≤_, _<_}
 use mathlib.Core.Path.{_≡_, refl, sym, ap, ap₂, _∙_}
 use native.Mathlib.Nat.{zero-add}
@@ -9,14 +9,15 @@ use lib.ListN.{length, getD, length-set}
 use Rattle.ground.specs.Table.{tab}
 use Rattle.ground.proofs.Table.{getD-tab, tab-ext, tab-cong}
 use Rattle.ground.proofs.Fill.{fill-more}
 use Rattle.patterns.specs.Rows.{dataRows, tailRows, dataGroup, groupAt, digit}
-use Rattle.patterns.specs.Walk.{entries, entryFrom}
-use Rattle.patterns.proofs.Packed.{digits, dataNumber, tailNumber, entry-is, group-none}
-use Rattle.patterns.proofs.rows.entries.Statement.{statement}
-use Rattle.patterns.proofs.rows.entries.Tie as tie
-use Rattle.patterns.proofs.rows.entries.Reads as reads
-use Rattle.patterns.proofs.rows.entries.Lts as lts
-use Rattle.patterns.proofs.rows.entry_from.Reads as entry-from-reads
+use Rattle.puncturing.specs.Entries.{entries}
+use Rattle.puncturing.specs.Inside.{entryFrom}
+use Rattle.puncturing.proofs.Packed.{digits, dataNumber, tailNumber, entry-is, group-none}
+use Rattle.puncturing.proofs.entries.Statement.{statement}
+use Rattle.puncturing.proofs.entries.Tie as tie
+use Rattle.puncturing.proofs.entries.Reads as reads
+use Rattle.puncturing.proofs.entries.Lts as lts
+use Rattle.puncturing.proofs.entry_from.Reads as entry-from-reads
 
 abbrev Inv-loop : tie.InvT-loop
 Inv-loop pattern t₀ row tail j₀ t j = (j ≤ 18) × (length t ≡ 18) × ((k : ℕ) → k < j → getD t k 0 ≡ groupAt pattern 12 k)

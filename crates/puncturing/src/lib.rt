@@ -1,8 +1,9 @@
 // The puncturing rows (tables 7 and 8).
 ghost use mathlib.Core.Path.{_≡_};
 ghost use Prim.Native.Nat.{_<_};
 ghost use Rattle.patterns.specs.Rows.{digit};
-ghost use Rattle.patterns.specs.Walk.{entries, spaced, entryFrom};
+ghost use Rattle.puncturing.specs.Entries.{entries};
+ghost use Rattle.puncturing.specs.Inside.{spaced, entryFrom};
 
 // The data rows by pattern number. A group is five bits, X Y0 Y1 Y'0 Y'1; the row is repeated up to twelve groups, which every row's length divides.
 const DATA: [u64; 28] = [

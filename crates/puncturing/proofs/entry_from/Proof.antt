@@ -1,14 +1,14 @@
--- `patterns::rows::entry_from` meets its contract. Assumes nothing.
+-- `puncturing::entry_from` meets its contract. Assumes nothing.
 use mathlib.Core.Path.{sym, _∙_}
 use borrow.Author.Tests.{lt-ltb, le-ltb}
 use Rattle.ground.proofs.Choice.{choose-true}
-use Rattle.patterns.specs.Walk.{spaced, entryFrom}
+use Rattle.puncturing.specs.Inside.{spaced, entryFrom}
 use borrow.Author.Needs.{needs}
-use Rattle.patterns.proofs.rows.entry_from.Statement.{statement}
-use Rattle.patterns.proofs.rows.entry_from.Tie as tie
-use Rattle.patterns.proofs.rows.entry_from.Reads as reads
-use Rattle.patterns.proofs.rows.entry_from.Lts as lts
-use Rattle.patterns.proofs.rows.spaced.Reads as spaced-reads
+use Rattle.puncturing.proofs.entry_from.Statement.{statement}
+use Rattle.puncturing.proofs.entry_from.Tie as tie
+use Rattle.puncturing.proofs.entry_from.Reads as reads
+use Rattle.puncturing.proofs.entry_from.Lts as lts
+use Rattle.puncturing.proofs.spaced.Reads as spaced-reads
 
 mul-spaced : tie.Need-mul-spaced
 mul-spaced c = search needs

@@ -13,8 +13,8 @@ use Rattle.ground.specs.Choice.{choose}
 use Rattle.ground.specs.Table.{allBelow}
 use Rattle.ground.proofs.Choice.{choose-same}
 use Rattle.ground.proofs.Table.{at-all}
 use Rattle.patterns.specs.Rows.{dataRows, tailRows, dataGroup, tailGroup, groupAt, digit}
-use Rattle.patterns.specs.Walk.{spaced, entryFrom}
+use Rattle.puncturing.specs.Inside.{spaced, entryFrom}
 
 -- the number of the n digits f 0, f 1, .. to a base
 unfoldable pub digits : ℕ → (ℕ → ℕ) → ℕ → ℕ

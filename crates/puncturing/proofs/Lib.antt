@@ -1,0 +1,3 @@
+pub mod Packed
+pub mod Lanes
+pub mod Agree
