@@ -4,9 +4,8 @@ use mathlib.Core.Path.{_≡_}
 use contract.Lifetimes.{Lfts}
 use borrow.Fn.World.{ArgsD, ResD}
 use borrow.Fn.Kinds.{endedOf}
-use denote.Ref.{now}
 use denote.Triple.Clauses.{AtExit}
-use Rattle.ground.proofs.Outcome.{same, agree}
+use Rattle.ground.proofs.Outcome.{same}
 use Rattle.bits.proofs.bit as bit
 use Rattle.bits.proofs.bit.Kinds as bit-kinds
 use Rattle.bits.proofs.bit.Reads as bit-reads
@@ -16,9 +15,6 @@ use Rattle.bits.proofs.bit_from.Reads as bit-from-reads
 use Rattle.bits.proofs.field as field
 use Rattle.bits.proofs.field.Kinds as field-kinds
 use Rattle.bits.proofs.field.Reads as field-reads
-use Rattle.bits.proofs.wide.put as put
-use Rattle.bits.proofs.wide.put.Kinds as put-kinds
-use Rattle.bits.proofs.wide.put.Reads as put-reads
 
 module _ (κs : Lfts 1) (a : ArgsD bit.signature κs) where
   pub bit-agrees : (r r′ : ResD bit.signature κs) (s s′ : AtExit (endedOf 1 bit-kinds.ps bit-kinds.r) κs) →
@@ -34,8 +30,3 @@ module _ (κs : Lfts 1) (a : ArgsD field.signature κs) where
   pub field-agrees : (r r′ : ResD field.signature κs) (s s′ : AtExit (endedOf 1 field-kinds.ps field-kinds.r) κs) →
       field-reads.Post κs a r s → field-reads.Post κs a r′ s′ → r ≡ r′
   field-agrees r r′ s s′ p q = same p q
-
-module _ (κs : Lfts 1) (a : ArgsD put.signature κs) where
-  pub put-agrees : (r r′ : ResD put.signature κs) (s s′ : AtExit (endedOf 1 put-kinds.ps put-kinds.r) κs) →
-      put-reads.Post κs a r s → put-reads.Post κs a r′ s′ → (r ≡ r′) × (now (s .0) ≡ now (s′ .0))
-  put-agrees r r′ s s′ p q = agree p q

@@ -3,6 +3,5 @@ pub mod Lists
 pub mod Places
 pub mod Joined
 pub mod Numbers
-pub mod Widens
 pub mod Sums
 pub mod Agree

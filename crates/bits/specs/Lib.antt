@@ -1,4 +1,2 @@
 pub mod Lists
 pub mod Places
-pub mod Wide
-pub mod Held

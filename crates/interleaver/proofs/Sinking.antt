@@ -13,9 +13,9 @@ use lib.ListN.{length, getD, set, replicate, length-set, getD-replicate}
 use borrow.Author.Tests.{le-leb, lt-leb}
 use Rattle.ground.proofs.Fill.{fill-more}
 use Rattle.bits.specs.Places.{number}
-use Rattle.bits.specs.Held.{placeOf, Held, Put}
-use Rattle.bits.specs.declared.wide.Wide.{Wide}
 use Rattle.bits.proofs.Places.{number-lt}
+use Rattle.wide.specs.Held.{placeOf, Held, Put}
+use Rattle.wide.specs.declared.Wide.{Wide}
 use Rattle.order.specs.Order.{parameter, entries5, entries9, entry, reversed, address, kept}
 use Rattle.order.specs.Once.{Block}
 use Rattle.order.specs.Rows.{rowAddress}

@@ -8,8 +8,8 @@ use lib.Dec.{ltb, leb, eqb}
 use lib.ListN.{length, getD}
 use Rattle.ground.specs.Choice.{choose}
 use Rattle.bits.specs.Places.{number}
-use Rattle.bits.specs.Held.{placeOf, Held}
-use Rattle.bits.specs.declared.wide.Wide.{Wide}
+use Rattle.wide.specs.Held.{placeOf, Held}
+use Rattle.wide.specs.declared.Wide.{Wide}
 use Rattle.pairs.specs.Pairs.{Paired}
 use Rattle.rows.specs.Spelt.{rowPair}
 use Rattle.order.specs.Order.{parameter, address, kept, order}

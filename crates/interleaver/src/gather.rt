@@ -1,10 +1,10 @@
 // The bits in the order in which encoder 2 reads them, row by row (clause 4.4.4): a row has 24 columns, of which the last but one is at times left out.
-use bits::wide::Wide;
-use bits::wide::put;
+use wide::Wide;
+use wide::put;
 ghost use mathlib.Core.Path.{_≡_};
 ghost use Prim.Native.Nat.{ℕ, _+_, _*_, _^_, _<_, _≤_};
 ghost use lib.ListN.{length, getD, replicate};
-ghost use Rattle.bits.specs.Held.{placeOf, Put};
+ghost use Rattle.wide.specs.Held.{placeOf, Put};
 ghost use Rattle.order.specs.Order.{parameter};
 ghost use Rattle.order.specs.Once.{Block};
 ghost use Rattle.pairs.specs.Pairs.{Paired};

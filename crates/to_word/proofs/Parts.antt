@@ -10,12 +10,12 @@ use lib.ListN.{length, getD, take, drop, replicate, length-append, length-drop, 
 use lib.Seq.{take-at, drop-at, drop-drop, take-append-le, drop-append-le, getD-take, getD-drop, getD-append-add, length-take-le}
 use Rattle.bits.specs.Lists.{num, unpack, pack, Below}
 use Rattle.bits.specs.Places.{bitAt, number, fieldAt}
-use Rattle.bits.specs.Held.{placeOf, Held}
-use Rattle.bits.specs.declared.wide.Wide.{Wide}
 use Rattle.bits.proofs.Below.{below-append, below-drop, below-replicate, below-get}
 use Rattle.bits.proofs.Lists.{unpack-below, unpack-length, pack-length}
 use Rattle.bits.proofs.Places.{number-move, field-is}
 use Rattle.bits.proofs.Joined.{bit-unpack, number-list, field-num}
+use Rattle.wide.specs.Held.{placeOf, Held}
+use Rattle.wide.specs.declared.Wide.{Wide}
 use Rattle.description.specs.Rows.{width, join, cut, joins, cuts}
 use Rattle.description.specs.Fields.{table15, table16, table16b, table18, table19}
 use Rattle.description.specs.Description.{Lists}

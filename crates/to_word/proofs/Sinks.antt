@@ -12,12 +12,12 @@ use Rattle.ground.specs.Table.{tab}
 use Rattle.ground.proofs.Table.{tab-ext}
 use Rattle.bits.specs.Lists.{bits, num, unpack, pack, Below}
 use Rattle.bits.specs.Places.{bitAt, number, packed, fieldAt}
-use Rattle.bits.specs.Held.{placeOf, Held, Put}
-use Rattle.bits.specs.declared.wide.Wide.{Wide}
 use Rattle.bits.proofs.Below.{below-append, below-replicate, below-get}
 use Rattle.bits.proofs.Lists.{bits-length, bits-below, num-bits, pack-length, unpack-pack}
 use Rattle.bits.proofs.Places.{number-cong, number-move, number-append, number-lt, field-is}
 use Rattle.bits.proofs.Joined.{bit-unpack, run-unpack, number-list, pack-at, packed-pack}
+use Rattle.wide.specs.Held.{placeOf, Held, Put}
+use Rattle.wide.specs.declared.Wide.{Wide}
 use Rattle.crc.specs.Crc.{crcOf, crc12Of}
 use Rattle.crc.proofs.Laws.{crc-lt}
 use Rattle.description.specs.Layout.{sealed}

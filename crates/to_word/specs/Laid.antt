@@ -6,8 +6,8 @@ use mathlib.Core.List.{List, _++_}
 use lib.ListN.{length, getD, replicate}
 use Rattle.bits.specs.Lists.{pack, Below}
 use Rattle.bits.specs.Places.{number, fieldAt}
-use Rattle.bits.specs.Held.{placeOf, Held}
-use Rattle.bits.specs.declared.wide.Wide.{Wide}
+use Rattle.wide.specs.Held.{placeOf, Held}
+use Rattle.wide.specs.declared.Wide.{Wide}
 use Rattle.description.specs.Rules.{size}
 use Rattle.description.specs.Layout.{sealed}
 use Rattle.description.specs.Sheet.{form1, sheetEnd}

@@ -1,6 +1,4 @@
 // The word of an accepted sheet, through the sink: the lists in the order of table 14, zeros behind them, and the CRC.
-use bits::wide::Wide;
-use bits::wide::put;
 use ground::SIGNALLING_LISTS;
 use ground::SIGNALLING_WORD;
 use sheets::view::FORM1;
@@ -10,11 +8,13 @@ use sheets::view::SECTION;
 use sheets::view::STREAM;
 use sheets::view::TAIL;
 use sheets::view::of_sheet;
+use wide::Wide;
+use wide::put;
 ghost use mathlib.Core.Path.{_≡_};
 ghost use Prim.Native.Nat.{_+_, _*_, _%_, _≤_, _<_};
 ghost use lib.ListN.{length};
 ghost use Rattle.bits.specs.Lists.{unpack};
-ghost use Rattle.bits.specs.Held.{placeOf};
+ghost use Rattle.wide.specs.Held.{placeOf};
 ghost use Rattle.description.specs.Layout.{wordOf};
 ghost use Rattle.description.specs.Sheet.{form1};
 ghost use Rattle.description.specs.Form1.{sheetLists};

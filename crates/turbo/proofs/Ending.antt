@@ -16,11 +16,11 @@ use Rattle.ground.specs.Table.{tab, allBelow}
 use Rattle.ground.proofs.Choice.{choose-true, choose-false}
 use Rattle.ground.proofs.Table.{at-all}
 use Rattle.bits.specs.Places.{bitAt, number, packed}
-use Rattle.bits.specs.Held.{placeOf}
-use Rattle.bits.specs.Wide.{wider}
-use Rattle.bits.specs.declared.wide.Wide.{Wide}
 use Rattle.bits.proofs.Places.{number-lt, packed-ext}
-use Rattle.bits.proofs.Widens.{wide-put}
+use Rattle.wide.specs.Held.{placeOf}
+use Rattle.wide.specs.Wide.{wider}
+use Rattle.wide.specs.declared.Wide.{Wide}
+use Rattle.wide.proofs.Widens.{wide-put}
 use Rattle.patterns.specs.Blocks.{Coded}
 use Rattle.patterns.specs.Rates.{rates, rateOf}
 use Rattle.patterns.specs.Rows.{dataRows, tailRows, dataGroup, tailGroup, groupAt, digit, copies}

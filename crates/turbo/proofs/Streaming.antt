@@ -16,9 +16,9 @@ use Rattle.ground.specs.Table.{tab, allBelow}
 use Rattle.ground.proofs.Choice.{choose-true}
 use Rattle.ground.proofs.Table.{at-all}
 use Rattle.bits.specs.Places.{bitAt, number}
-use Rattle.bits.specs.Held.{placeOf}
 use Rattle.bits.proofs.Places.{bit-lt, number-lt, number-cong}
-use Rattle.bits.proofs.Widens.{wide-put}
+use Rattle.wide.specs.Held.{placeOf}
+use Rattle.wide.proofs.Widens.{wide-put}
 use Rattle.patterns.specs.Rows.{dataRows, tailRows, dataGroup, tailGroup, groupAt, digit, copies}
 use Rattle.puncturing.specs.Entries.{entries}
 use Rattle.patterns.specs.Sent.{places, spread, total}

@@ -7,8 +7,8 @@ use lib.Bits.{bitXor}
 use lib.ListN.{length, getD}
 use Rattle.ground.specs.Outcome.{Outcome}
 use Rattle.bits.specs.Places.{bitAt}
-use Rattle.bits.specs.Held.{placeOf, Held}
-use Rattle.bits.specs.Wide.{wider}
+use Rattle.wide.specs.Held.{placeOf, Held}
+use Rattle.wide.specs.Wide.{wider}
 use Rattle.patterns.specs.Blocks.{Coded}
 use Rattle.patterns.specs.Rows.{copies}
 use Rattle.puncturing.specs.Entries.{entries}

@@ -1,5 +1,5 @@
 // The code bits of a block, six bit periods at a time.
-use bits::wide::Wide;
+use wide::Wide;
 ghost use mathlib.Core.Path.{_≡_};
 ghost use Prim.Native.Nat.{_+_, _*_, _/_, _<_, _≤_};
 ghost use lib.ListN.{length, getD};
@@ -48,7 +48,7 @@ fn chunk(
     let both = c.both;
     let s = c.sink;
     let z = look[o + 128 + u] ^ look[o + 64 + v] ^ look[o + both];
-    let sink = bits::wide::put(out, s, z / 64, k);
+    let sink = wide::put(out, s, z / 64, k);
     Coder {
         sink,
         both: (z % 64) as usize,
@@ -120,5 +120,5 @@ pub fn code(pattern: usize, n: usize, word: &[u8], second: &[u8], out: &mut [u8]
     let c = send(out, word, second, pattern, n, &look, plan.k0, plan.k1);
     let sink = c.sink;
     let tail = tail::run_of(&rows, c.both);
-    bits::wide::put(out, sink, tail.value, tail.bits);
+    wide::put(out, sink, tail.value, tail.bits);
 }

@@ -5,8 +5,8 @@ use mathlib.Core.List.{List}
 use native.Mathlib.Nat.{zero-add}
 use native.Mathlib.Omega.{arith}
 use lib.ListN.{length, length-replicate}
-use Rattle.bits.specs.Held.{placeOf}
-use Rattle.bits.proofs.Widens.{wide-put}
+use Rattle.wide.specs.Held.{placeOf}
+use Rattle.wide.proofs.Widens.{wide-put}
 use Rattle.interleaver.specs.Inside.{halfOf, Behind, Sunk}
 use Rattle.interleaver.proofs.Sinking.{listed-lt, start, block-most, place-whole, gathered}
 use borrow.Author.Needs.{needs}
@@ -14,7 +14,7 @@ use Rattle.interleaver.proofs.gather.gather.Statement.{statement}
 use Rattle.interleaver.proofs.gather.gather.Tie as tie
 use Rattle.interleaver.proofs.gather.gather.Reads as reads
 use Rattle.interleaver.proofs.gather.gather.Lts as lts
-use Rattle.bits.proofs.wide.put.Reads as put-reads
+use Rattle.wide.proofs.put.Reads as put-reads
 use Rattle.interleaver.proofs.gather.fill.Reads as fill-reads
 use Rattle.interleaver.proofs.gather.half_of.Reads as half-of-reads
 use Rattle.interleaver.proofs.gather.put_rows.Reads as put-rows-reads

@@ -4,15 +4,15 @@ use mathlib.Core.Path.{sym, _∙_, subst}
 use mathlib.Core.Bool.{Bool}
 use native.Mathlib.Omega.{arith}
 use denote.Ref.{now}
-use Rattle.bits.specs.Held.{Put}
-use Rattle.bits.proofs.Widens.{wide-put}
+use Rattle.wide.specs.Held.{Put}
+use Rattle.wide.proofs.Widens.{wide-put}
 use Rattle.interleaver.specs.Inside.{rowValue, rowWidth}
 use borrow.Author.Needs.{needs}
 use Rattle.interleaver.proofs.gather.put_row.Statement.{statement}
 use Rattle.interleaver.proofs.gather.put_row.Tie as tie
 use Rattle.interleaver.proofs.gather.put_row.Reads as reads
 use Rattle.interleaver.proofs.gather.put_row.Lts as lts
-use Rattle.bits.proofs.wide.put.Reads as put-reads
+use Rattle.wide.proofs.put.Reads as put-reads
 use Rattle.interleaver.proofs.gather.is_short.Reads as is-short-reads
 
 is-short-requires : tie.Need-is-short-requires

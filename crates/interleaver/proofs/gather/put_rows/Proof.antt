@@ -3,7 +3,7 @@ use Prim.Native.Nat.{_+_, _-_, _*_, _^_, _≤_, _<_}
 use mathlib.Core.Path.{_≡_, subst}
 use native.Mathlib.Omega.{arith}
 use lib.ListN.{length}
-use Rattle.bits.specs.Held.{placeOf}
+use Rattle.wide.specs.Held.{placeOf}
 use Rattle.order.specs.Order.{parameter}
 use Rattle.interleaver.specs.Inside.{Sunk, halfOf}
 use Rattle.interleaver.proofs.Gathering.{sized}

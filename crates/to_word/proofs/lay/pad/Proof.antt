@@ -1,17 +1,17 @@
 use Prim.Native.Nat.{_-_}
 use mathlib.Core.Path.{_∙_}
 use native.Mathlib.Omega.{arith}
-use Rattle.bits.proofs.Widens.{wide-put}
+use Rattle.wide.proofs.Widens.{wide-put}
 use Rattle.to_word.proofs.Sinks.{Flushed, flushed-first, flushed-more, flushed-step, flushed-none, flushed-then, flushed-all}
 use denote.Ref.{now}
 use lib.Pow.{pow-pos}
-use Rattle.bits.specs.Held.{Put}
+use Rattle.wide.specs.Held.{Put}
 use borrow.Author.Needs.{needs}
 use Rattle.to_word.proofs.lay.pad.Statement.{statement}
 use Rattle.to_word.proofs.lay.pad.Tie as tie
 use Rattle.to_word.proofs.lay.pad.Reads as reads
 use Rattle.to_word.proofs.lay.pad.Lts as lts
-use Rattle.bits.proofs.wide.put.Reads as put-reads
+use Rattle.wide.proofs.put.Reads as put-reads
 
 abbrev Inv-loop : tie.InvT-loop
 Inv-loop out₀ s₀ out s = Flushed out₀ s₀ out s

@@ -4,7 +4,7 @@ use native.Mathlib.Nat.{mul-le-mul-left, mul-suc}
 use native.Mathlib.Numerals.{add-one}
 use native.Mathlib.Omega.{arith}
 use Rattle.bits.proofs.Places.{field-lt}
-use Rattle.bits.proofs.Widens.{wide-put}
+use Rattle.wide.proofs.Widens.{wide-put}
 use Rattle.to_word.specs.Laid.{Puts}
 use Rattle.to_word.proofs.Sinks.{puts-none, puts-more, apart-small}
 use borrow.Author.Needs.{needs}
@@ -13,7 +13,7 @@ use Rattle.to_word.proofs.lay.put_fields.Tie as tie
 use Rattle.to_word.proofs.lay.put_fields.Reads as reads
 use Rattle.to_word.proofs.lay.put_fields.Lts as lts
 use Rattle.bits.proofs.field.Reads as field-reads
-use Rattle.bits.proofs.wide.put.Reads as put-reads
+use Rattle.wide.proofs.put.Reads as put-reads
 
 abbrev Inv-loop : tie.InvT-loop
 Inv-loop out₀ sheet at apart width n s₀ i₀ out s i = (i ≤ n) × Puts sheet at apart width i out₀ s₀ out s

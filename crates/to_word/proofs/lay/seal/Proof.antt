@@ -1,5 +1,5 @@
 use native.Mathlib.Omega.{arith}
-use Rattle.bits.proofs.Widens.{wide-put}
+use Rattle.wide.proofs.Widens.{wide-put}
 use denote.Ref.{now}
 use Prim.Native.Nat.{_*_}
 use Rattle.to_word.proofs.Sinks.{seals, crc-small}
@@ -9,7 +9,7 @@ use Rattle.to_word.proofs.lay.seal.Tie as tie
 use Rattle.to_word.proofs.lay.seal.Reads as reads
 use Rattle.to_word.proofs.lay.seal.Lts as lts
 use Rattle.bits.proofs.field.Reads as field-reads
-use Rattle.bits.proofs.wide.put.Reads as put-reads
+use Rattle.wide.proofs.put.Reads as put-reads
 use Rattle.crc.proofs.crc12.Reads as crc12-reads
 
 -- src/lay.rt:69:15

@@ -2,7 +2,7 @@
 use Prim.Native.Nat.{ℕ, _%_}
 use mathlib.Core.Path.{ap}
 use denote.Ref.{now}
-use Rattle.bits.specs.declared.wide.Wide.{Wide}
+use Rattle.wide.specs.declared.Wide.{Wide}
 use Rattle.turbo.specs.Stream.{told, chunked}
 use Rattle.turbo.specs.declared.stream.Coder.{Coder}
 use borrow.Author.Needs.{needs}
@@ -10,7 +10,7 @@ use Rattle.turbo.proofs.stream.chunk.Statement.{statement}
 use Rattle.turbo.proofs.stream.chunk.Tie as tie
 use Rattle.turbo.proofs.stream.chunk.Reads as reads
 use Rattle.turbo.proofs.stream.chunk.Lts as lts
-use Rattle.bits.proofs.wide.put.Reads as put-reads
+use Rattle.wide.proofs.put.Reads as put-reads
 
 add-z : tie.Need-add-z
 add-z c = search needs

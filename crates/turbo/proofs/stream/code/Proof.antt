@@ -15,7 +15,7 @@ use Rattle.turbo.proofs.stream.code.Statement.{statement}
 use Rattle.turbo.proofs.stream.code.Tie as tie
 use Rattle.turbo.proofs.stream.code.Reads as reads
 use Rattle.turbo.proofs.stream.code.Lts as lts
-use Rattle.bits.proofs.wide.put.Reads as put-reads
+use Rattle.wide.proofs.put.Reads as put-reads
 use Rattle.puncturing.proofs.entries.Reads as entries-reads
 use Rattle.tables.proofs.plan_of.Reads as plan-of-reads
 use Rattle.tail.proofs.run_of.Reads as run-of-reads

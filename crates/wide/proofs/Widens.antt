@@ -13,11 +13,11 @@ use borrow.Author.Tests.{lt-ltb, le-ltb}
 use Rattle.ground.specs.Outcome.{Is}
 use Rattle.ground.proofs.Outcome.{gave}
 use Rattle.ground.proofs.Choice.{choose-true, choose-false}
 use Rattle.bits.specs.Places.{number}
-use Rattle.bits.specs.Wide.{stored, widened, waiting, wider}
-use Rattle.bits.specs.Held.{placeOf, Held, Put}
-use Rattle.bits.specs.declared.wide.Wide.{Wide}
+use Rattle.wide.specs.Wide.{stored, widened, waiting, wider}
+use Rattle.wide.specs.Held.{placeOf, Held, Put}
+use Rattle.wide.specs.declared.Wide.{Wide}
 use Rattle.bits.proofs.Places.{number-append, number-lt}
 
 -- ---- the four cases
 module _ (out : List ℕ) (s : Wide) (v k : ℕ) where

@@ -6,7 +6,7 @@ use lib.Dec.{ltb}
 use lib.ListN.{length, set}
 use Rattle.ground.specs.Outcome.{Outcome}
 use Rattle.ground.specs.Choice.{choose}
-use Rattle.bits.specs.declared.wide.Wide.{Wide}
+use Rattle.wide.specs.declared.Wide.{Wide}
 
 -- the low 32 bits of x in four bytes from a place on
 unfoldable pub stored : List ℕ → ℕ → ℕ → List ℕ

@@ -4,8 +4,8 @@ use Prim.Native.Nat.{ℕ, _+_, _*_, _%_, _^_, _≤_, _<_}
 use mathlib.Core.Path.{_≡_}
 use mathlib.Core.List.{List}
 use lib.ListN.{length, getD}
 use Rattle.bits.specs.Places.{number}
-use Rattle.bits.specs.declared.wide.Wide.{Wide}
+use Rattle.wide.specs.declared.Wide.{Wide}
 
 -- the next bit's place
 abbrev pub placeOf : Wide → ℕ

@@ -1,19 +1,19 @@
--- `bits::wide::put` meets its contract. Assumes nothing.
+-- `wide::put` meets its contract. Assumes nothing.
 use Prim.Native.Nat.{ℕ, _+_, _-_, _*_, _%_, _^_}
 use mathlib.Core.Path.{sym, subst}
 use mathlib.Core.List.{List}
 use native.Mathlib.Omega.{arith}
 use denote.Ref.{now}
 use Rattle.ground.specs.Outcome.{Is}
-use Rattle.bits.specs.Wide.{wider}
-use Rattle.bits.specs.declared.wide.Wide.{Wide}
-use Rattle.bits.proofs.Widens.{wider-many, wider-part, wider-full, wider-whole, shifted-widened, shifted-room}
+use Rattle.wide.specs.Wide.{wider}
+use Rattle.wide.specs.declared.Wide.{Wide}
+use Rattle.wide.proofs.Widens.{wider-many, wider-part, wider-full, wider-whole, shifted-widened, shifted-room}
 use borrow.Author.Needs.{needs}
-use Rattle.bits.proofs.wide.put.Statement.{statement}
-use Rattle.bits.proofs.wide.put.Tie as tie
-use Rattle.bits.proofs.wide.put.Reads as reads
-use Rattle.bits.proofs.wide.put.Lts as lts
-use Rattle.bits.proofs.wide.store.Reads as store-reads
+use Rattle.wide.proofs.put.Statement.{statement}
+use Rattle.wide.proofs.put.Tie as tie
+use Rattle.wide.proofs.put.Reads as reads
+use Rattle.wide.proofs.put.Lts as lts
+use Rattle.wide.proofs.store.Reads as store-reads
 
 returns : tie.Need-returns
 returns c =

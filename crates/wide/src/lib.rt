@@ -2,7 +2,7 @@
 ghost use mathlib.Core.Path.{_≡_};
 ghost use Prim.Native.Nat.{_+_, _≤_};
 ghost use lib.ListN.{length};
-ghost use Rattle.bits.specs.Wide.{stored, wider};
+ghost use Rattle.wide.specs.Wide.{stored, wider};
 ghost use Rattle.ground.specs.Outcome.{Is};
 
 // Where the next bit goes: `at` bytes are stored, and the low `used` bits of `acc` are to follow.

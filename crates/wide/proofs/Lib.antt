@@ -1,0 +1,2 @@
+pub mod Widens
+pub mod Agree
