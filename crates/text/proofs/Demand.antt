@@ -23,7 +23,8 @@ use Rattle.description.specs.Sheet.{sheet}
 use Rattle.description.specs.Word.{front}
 use Rattle.description.specs.Form1.{checked, listsStated}
 use Rattle.description.proofs.DemandWrite.{judged, long-refused}
-use Rattle.text.specs.Listing.{listing, accepted, refused}
+use Rattle.lines.specs.Lines.{accepted}
+use Rattle.text.specs.Listing.{listing, refused}
 use Rattle.text.specs.Answers.{told, answered, listed, textIn, SaysOk}
 use Rattle.text.specs.declared.Listing.{Listing}
 use Rattle.text.specs.declared.Listing.the-variants.{Text, Refused, NoRoom}

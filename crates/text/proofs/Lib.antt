@@ -1,4 +1,3 @@
-pub mod Lines
 pub mod Short
 pub mod Listed
 pub mod Told

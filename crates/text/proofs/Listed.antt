@@ -21,7 +21,8 @@ use Rattle.sheets.proofs.Lists.{sheet-lists}
 use Rattle.sheets.proofs.Found.{Found, counted, counted-found}
 use Rattle.words.specs.Words.{put}
 use Rattle.words.proofs.Puts.{put-front}
-use Rattle.text.specs.Listing.{accepted, refused, listing}
+use Rattle.lines.specs.Lines.{accepted}
+use Rattle.text.specs.Listing.{refused, listing}
 use Rattle.text.specs.Answers.{answered, listed}
 use Rattle.text.proofs.Short.{listing-short}
 

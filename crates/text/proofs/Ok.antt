@@ -11,7 +11,8 @@ use borrow.Author.Tests.{lt-ltb, le-ltb}
 use Rattle.ground.proofs.Choice.{choose-true, choose-false}
 use Rattle.description.specs.Description.{Lists}
 use Rattle.words.specs.Words.{ascii, digits, decimal, filled, line}
-use Rattle.text.specs.Listing.{multiplexLine, pipeLines, tailLine, accepted, refused}
+use Rattle.lines.specs.Lines.{multiplexLine, pipeLines, tailLine, accepted}
+use Rattle.text.specs.Listing.{refused}
 use Rattle.text.specs.Answers.{SaysOk}
 
 pub accepted-says : (l : Lists) → SaysOk (accepted l)

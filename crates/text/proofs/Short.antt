@@ -24,8 +24,9 @@ use Rattle.description.proofs.Bounds.{own-bounds}
 use Rattle.description.proofs.Tests.{lists-clear}
 use Rattle.words.proofs.Decimal.{digits-most}
 use Rattle.words.proofs.Room.{filled-room}
-use Rattle.text.specs.Listing.{multiplexLine, pipeLine, pipeLines, tailLine, accepted, refused, listing}
-use Rattle.text.proofs.Lines.{accepted-length}
+use Rattle.lines.specs.Lines.{multiplexLine, pipeLine, pipeLines, tailLine, accepted}
+use Rattle.lines.proofs.Lined.{accepted-length}
+use Rattle.text.specs.Listing.{refused, listing}
 
 -- ---- each line
 pipe-short : (k : ℕ) (f : List ℕ) → k < 100 → Row table16 f → length (pipeLine k f) ≤ 52

@@ -1,6 +1,4 @@
 // The listing of a sheet (document 01, "Points on either side"), as text.
-mod records;
-
 use sheets::answer::Answer;
 ghost use mathlib.Core.Path.{_≡_};
 ghost use Rattle.ground.specs.Outcome.{Is};
@@ -38,5 +36,5 @@ pub fn list(sheet: &[u8], out: &mut [u8]) -> Listing
         let n = words::line(out, 0, b"refused #\n", &[number as u32]);
         return Listing::Refused { number, n };
     };
-    Listing::Text(records::lines(sheet, p, s, d, out))
+    Listing::Text(lines::lines(sheet, p, s, d, out))
 }

@@ -13,7 +13,7 @@ use Rattle.text.proofs.list.Tie as tie
 use Rattle.text.proofs.list.Reads as reads
 use Rattle.text.proofs.list.Lts as lts
 use Rattle.forms.proofs.check.Reads as check-reads
-use Rattle.text.proofs.records.lines.Reads as lines-reads
+use Rattle.lines.proofs.lines.Reads as lines-reads
 use Rattle.text.proofs.refusal.Reads as refusal-reads
 use Rattle.words.proofs.line.Reads as line-reads
 

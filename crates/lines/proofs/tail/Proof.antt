@@ -1,11 +1,11 @@
--- `text::records::tail` meets its contract. Assumes nothing.
+-- `lines::tail` meets its contract. Assumes nothing.
 use borrow.Author.Needs.{needs}
 use Rattle.words.proofs.Puts.{put-same}
-use Rattle.text.proofs.Lines.{tail-unused, tail-used}
-use Rattle.text.proofs.records.tail.Statement.{statement}
-use Rattle.text.proofs.records.tail.Tie as tie
-use Rattle.text.proofs.records.tail.Reads as reads
-use Rattle.text.proofs.records.tail.Lts as lts
+use Rattle.lines.proofs.Lined.{tail-unused, tail-used}
+use Rattle.lines.proofs.tail.Statement.{statement}
+use Rattle.lines.proofs.tail.Tie as tie
+use Rattle.lines.proofs.tail.Reads as reads
+use Rattle.lines.proofs.tail.Lts as lts
 use Rattle.sheets.proofs.records.tail_at.Reads as tail-at-reads
 use Rattle.words.proofs.line.Reads as line-reads
 

@@ -21,7 +21,7 @@ use Rattle.sheets.proofs.Rows.{rows-length, rows-more}
 use Rattle.ground.specs.Table.{tab}
 use Rattle.words.specs.Words.{filled, line, put}
 use Rattle.words.proofs.Puts.{put-none, put-same, put-long, put-more}
-use Rattle.text.specs.Listing.{multiplexLine, pipeLine, pipeLines, tailLine, accepted}
+use Rattle.lines.specs.Lines.{multiplexLine, pipeLine, pipeLines, tailLine, accepted}
 
 -- ---- each line is the text with the numbers that were read
 abbrev pub multiplexText : Multiplex → ℕ → ℕ → ℕ → List ℕ

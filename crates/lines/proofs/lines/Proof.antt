@@ -1,15 +1,15 @@
--- `text::records::lines` meets its contract: the lines stand one behind the other. Assumes nothing.
+-- `lines::lines` meets its contract: the lines stand one behind the other. Assumes nothing.
 use borrow.Author.Needs.{needs}
 use Rattle.description.specs.Sheet.{form1}
-use Rattle.text.proofs.Lines.{lines-put}
-use Rattle.text.proofs.records.lines.Statement.{statement}
-use Rattle.text.proofs.records.lines.Tie as tie
-use Rattle.text.proofs.records.lines.Reads as reads
-use Rattle.text.proofs.records.lines.Lts as lts
+use Rattle.lines.proofs.Lined.{lines-put}
+use Rattle.lines.proofs.lines.Statement.{statement}
+use Rattle.lines.proofs.lines.Tie as tie
+use Rattle.lines.proofs.lines.Reads as reads
+use Rattle.lines.proofs.lines.Lts as lts
 use Rattle.sheets.proofs.records.multiplex_at.Reads as multiplex-at-reads
 use Rattle.sheets.proofs.view.of_sheet.Reads as of-sheet-reads
-use Rattle.text.proofs.records.pipes.Reads as pipes-reads
-use Rattle.text.proofs.records.tail.Reads as tail-reads
+use Rattle.lines.proofs.pipes.Reads as pipes-reads
+use Rattle.lines.proofs.tail.Reads as tail-reads
 use Rattle.words.proofs.line.Reads as line-reads
 
 of-sheet-requires : tie.Need-of-sheet-requires

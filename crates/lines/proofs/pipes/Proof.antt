@@ -1,11 +1,11 @@
--- `text::records::pipes` meets its contract: after i turns the lines of i pipes are put. Assumes nothing.
+-- `lines::pipes` meets its contract: after i turns the lines of i pipes are put. Assumes nothing.
 use Prim.Native.Nat.{_-_}
 use borrow.Author.Needs.{needs}
-use Rattle.text.proofs.Lines.{Lined, lined-none, lined-more, lined-all}
-use Rattle.text.proofs.records.pipes.Statement.{statement}
-use Rattle.text.proofs.records.pipes.Tie as tie
-use Rattle.text.proofs.records.pipes.Reads as reads
-use Rattle.text.proofs.records.pipes.Lts as lts
+use Rattle.lines.proofs.Lined.{Lined, lined-none, lined-more, lined-all}
+use Rattle.lines.proofs.pipes.Statement.{statement}
+use Rattle.lines.proofs.pipes.Tie as tie
+use Rattle.lines.proofs.pipes.Reads as reads
+use Rattle.lines.proofs.pipes.Lts as lts
 use Rattle.sheets.proofs.records.pipe_at.Reads as pipe-at-reads
 use Rattle.words.proofs.line.Reads as line-reads
 

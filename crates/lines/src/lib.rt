@@ -1,4 +1,4 @@
-// The lines of an accepted sheet, put into a buffer: each function returns the place behind its text.
+// The lines of an accepted sheet's listing (document 01, "Points on either side"), put into a buffer: each function returns the place behind its text.
 use sheets::view::FORM1;
 ghost use Rattle.ground.specs.Outcome.{Is};
 ghost use Rattle.description.specs.Sheet.{form1};
@@ -6,7 +6,7 @@ ghost use Rattle.description.specs.Fields.{table16, table16b};
 ghost use Rattle.sheets.specs.Rows.{rowAt, rowsAt};
 ghost use Rattle.sheets.specs.View.{sheetView, listsAt};
 ghost use Rattle.words.specs.Words.{put};
-ghost use Rattle.text.specs.Listing.{pipeLines, tailLine, accepted};
+ghost use Rattle.lines.specs.Lines.{pipeLines, tailLine, accepted};
 
 // The lines of p payload pipes, whose records begin at a place.
 fn pipes(sheet: &[u8], at: u32, p: u8, out: &mut [u8], to: usize) -> usize
