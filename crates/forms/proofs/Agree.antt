@@ -10,17 +10,9 @@ use Rattle.sheets.proofs.Told.{told-one}
 use Rattle.forms.proofs.check as check
 use Rattle.forms.proofs.check.Kinds as check-kinds
 use Rattle.forms.proofs.check.Reads as check-reads
-use Rattle.forms.proofs.header.header_of as header-of
-use Rattle.forms.proofs.header.header_of.Kinds as header-of-kinds
-use Rattle.forms.proofs.header.header_of.Reads as header-of-reads
 use Rattle.forms.proofs.records.record_fault as record-fault
 use Rattle.forms.proofs.records.record_fault.Kinds as record-fault-kinds
 use Rattle.forms.proofs.records.record_fault.Reads as record-fault-reads
-
-module _ (κs : Lfts 0) (a : ArgsD header-of.signature κs) where
-  pub header-of-agrees : (r r′ : ResD header-of.signature κs) (s s′ : AtExit (endedOf 0 header-of-kinds.ps header-of-kinds.r) κs) →
-      header-of-reads.Post κs a r s → header-of-reads.Post κs a r′ s′ → r ≡ r′
-  header-of-agrees r r′ s s′ p q = same p q
 
 module _ (κs : Lfts 1) (a : ArgsD record-fault.signature κs) where
   pub record-fault-agrees : (r r′ : ResD record-fault.signature κs) (s s′ : AtExit (endedOf 1 record-fault-kinds.ps record-fault-kinds.r) κs) →

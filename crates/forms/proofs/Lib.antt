@@ -1,4 +1,3 @@
-pub mod Headers
 pub mod Counts
 pub mod Checked
 pub mod Agree

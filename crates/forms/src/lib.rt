@@ -1,7 +1,5 @@
-// Forms of a sheet (document 01): its header, written and judged, and its records judged over counts that are given.
-pub mod header;
+// Forms of a sheet (document 01): its records judged over counts that are given, and the whole judged over those that its header states.
 pub mod records;
-mod stated;
 
 use sheets::answer::Answer;
 use sheets::view::FORM1;
@@ -14,12 +12,12 @@ ghost use Rattle.sheets.specs.Answers.{told};
 pub fn check(sheet: &[u8]) -> Answer
     ensures { λ r. ⌜ (told r ≡ checked (now (sheet .entry))) × Below 256 (now (sheet .entry)) ⌝ }
 {
-    if stated::header_wrong(sheet, FORM1) {
+    if headers::header_wrong(sheet, FORM1) {
         return Answer::Refused(ground::HEADER_WRONG);
     }
-    let p = stated::byte_of(sheet, 0);
-    let s = stated::byte_of(sheet, 1) as u16;
-    let d = stated::byte_of(sheet, 2) as u16;
+    let p = headers::byte_of(sheet, 0);
+    let s = headers::byte_of(sheet, 1) as u16;
+    let d = headers::byte_of(sheet, 2) as u16;
     let n = records::record_fault(sheet, FORM1, p, s, d);
     if n != 0 {
         return Answer::Refused(n);

@@ -27,7 +27,7 @@ fn put_header(p: u8, s: u8, d: u8, out: &mut [u8])
     requires { ⌜ 12 ≤ length (now out) ⌝ }
     ensures { λ _. ⌜ now (out .exit) ≡ paste (now (out .entry)) 0 (header form1 p s d) 12 ⌝ }
 {
-    let head = forms::header::header_of(FORM1, p, s, d);
+    let head = headers::header_of(FORM1, p, s, d);
     let mut k: usize = 0;
     while k < 12 {
         out[k] = head[k];

@@ -8,8 +8,8 @@ use Rattle.forms.proofs.check.Statement.{statement}
 use Rattle.forms.proofs.check.Tie as tie
 use Rattle.forms.proofs.check.Reads as reads
 use Rattle.forms.proofs.check.Lts as lts
-use Rattle.forms.proofs.stated.byte_of.Reads as byte-of-reads
-use Rattle.forms.proofs.stated.header_wrong.Reads as header-wrong-reads
+use Rattle.headers.proofs.byte_of.Reads as byte-of-reads
+use Rattle.headers.proofs.header_wrong.Reads as header-wrong-reads
 use Rattle.forms.proofs.records.record_fault.Reads as record-fault-reads
 
 -- what is lent is bytes

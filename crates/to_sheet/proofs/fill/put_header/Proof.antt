@@ -12,7 +12,7 @@ use Rattle.to_sheet.proofs.fill.put_header.Statement.{statement}
 use Rattle.to_sheet.proofs.fill.put_header.Tie as tie
 use Rattle.to_sheet.proofs.fill.put_header.Reads as reads
 use Rattle.to_sheet.proofs.fill.put_header.Lts as lts
-use Rattle.forms.proofs.header.header_of.Reads as header-of-reads
+use Rattle.headers.proofs.header_of.Reads as header-of-reads
 
 abbrev Inv-loop : tie.InvT-loop
 Inv-loop p s d out₀ head k₀ out k = (k ≤ 12) × (length out ≡ length out₀) × (out ≡ over out₀ (header form1 p s d) k)

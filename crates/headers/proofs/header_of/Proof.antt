@@ -1,74 +1,75 @@
+-- `headers::header_of` meets its contract. Assumes nothing.
 use Prim.Native.Nat.{ℕ}
 use mathlib.Core.Path.{_≡_, refl, ap₂}
 use mathlib.Core.List.{List, _∷_}
 use borrow.Author.Needs.{needs}
 use Rattle.description.specs.Sheet.{header}
-use Rattle.forms.proofs.header.header_of.Statement.{statement}
-use Rattle.forms.proofs.header.header_of.Tie as tie
-use Rattle.forms.proofs.header.header_of.Reads as reads
-use Rattle.forms.proofs.header.header_of.Lts as lts
+use Rattle.headers.proofs.header_of.Statement.{statement}
+use Rattle.headers.proofs.header_of.Tie as tie
+use Rattle.headers.proofs.header_of.Reads as reads
+use Rattle.headers.proofs.header_of.Lts as lts
 
--- src/header.rt:65:17
+-- src/lib.rt:21:17
 add-pipes : tie.Need-add-pipes
 add-pipes c = search needs
 
--- src/header.rt:66:27
+-- src/lib.rt:22:27
 mul-streams : tie.Need-mul-streams
 mul-streams c = search needs
 
--- src/header.rt:66:19
+-- src/lib.rt:22:19
 add-streams : tie.Need-add-streams
 add-streams c = search needs
 
--- src/header.rt:67:30
+-- src/lib.rt:23:30
 mul-sections : tie.Need-mul-sections
 mul-sections c = search needs
 
--- src/header.rt:67:20
+-- src/lib.rt:23:20
 add-sections : tie.Need-add-sections
 add-sections c = search needs
 
--- src/header.rt:68:26
+-- src/lib.rt:24:26
 mul-end : tie.Need-mul-end
 mul-end c = search needs
 
--- src/header.rt:68:15
+-- src/lib.rt:24:15
 add-end : tie.Need-add-end
 add-end c = search needs
 
--- src/header.rt:74:9
+-- src/lib.rt:30:9
 cast-t11 : tie.Need-cast-t11
 cast-t11 c = search needs
 
--- src/header.rt:75:9
+-- src/lib.rt:31:9
 cast-t13 : tie.Need-cast-t13
 cast-t13 c = search needs
 
--- src/header.rt:76:9
+-- src/lib.rt:32:9
 cast-t16 : tie.Need-cast-t16
 cast-t16 c = search needs
 
--- src/header.rt:77:9
+-- src/lib.rt:33:9
 cast-t18 : tie.Need-cast-t18
 cast-t18 c = search needs
 
--- src/header.rt:78:9
+-- src/lib.rt:34:9
 cast-t21 : tie.Need-cast-t21
 cast-t21 c = search needs
 
--- src/header.rt:79:9
+-- src/lib.rt:35:9
 cast-t23 : tie.Need-cast-t23
 cast-t23 c = search needs
 
--- src/header.rt:80:9
+-- src/lib.rt:36:9
 cast-t26 : tie.Need-cast-t26
 cast-t26 c = search needs
 
--- src/header.rt:81:9
+-- src/lib.rt:37:9
 cast-t28 : tie.Need-cast-t28
 cast-t28 c = search needs
 
--- src/header.rt:62:1
+-- src/lib.rt:18:1
 returns : tie.Need-returns
 unfolding header
 returns c = byte refl (byte refl (byte refl (byte refl (byte (search needs) (byte (search needs)

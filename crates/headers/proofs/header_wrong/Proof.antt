@@ -1,16 +1,16 @@
--- `forms::stated::header_wrong` meets its contract. Assumes nothing.
+-- `headers::header_wrong` meets its contract. Assumes nothing.
 use Prim.Native.Nat.{ℕ}
 use mathlib.Core.Path.{sym}
 use mathlib.Core.List.{List}
 use lib.ListN.{drop}
-use Rattle.forms.proofs.Headers.{Left, compared, asked, short, long, read, off, passed, last}
+use Rattle.headers.proofs.Headers.{Left, compared, asked, short, long, read, off, passed, last}
 use borrow.Author.Needs.{needs}
-use Rattle.forms.proofs.stated.header_wrong.Statement.{statement}
-use Rattle.forms.proofs.stated.header_wrong.Tie as tie
-use Rattle.forms.proofs.stated.header_wrong.Reads as reads
-use Rattle.forms.proofs.stated.header_wrong.Lts as lts
-use Rattle.forms.proofs.stated.byte_of.Reads as byte-of-reads
-use Rattle.forms.proofs.stated.two_at.Reads as two-at-reads
+use Rattle.headers.proofs.header_wrong.Statement.{statement}
+use Rattle.headers.proofs.header_wrong.Tie as tie
+use Rattle.headers.proofs.header_wrong.Reads as reads
+use Rattle.headers.proofs.header_wrong.Lts as lts
+use Rattle.headers.proofs.byte_of.Reads as byte-of-reads
+use Rattle.headers.proofs.two_at.Reads as two-at-reads
 
 -- ---- the places of the tests
 -- the sheet, where it is long enough, and where the three counts have been read

@@ -1,12 +1,42 @@
-// What the header of a sheet states, and its test.
-use crate::header::MULTIPLEX_AND_TAIL;
-use crate::header::PIPE;
-use crate::header::SECTION;
-use crate::header::STREAM;
+// The header of a sheet (document 01, "Sheet"): written for counts that are given, and what it states, with its test.
 ghost use mathlib.Core.Path.{_≡_};
 ghost use Prim.Native.Nat.{_<_};
 ghost use lib.ListN.{getD};
+ghost use Rattle.description.specs.Sheet.{header};
 ghost use Rattle.description.specs.Header.{twoAt, headerFault};
+
+// The bytes of multiplex and tail behind a header, and those of a payload pipe, a stream and a section.
+const MULTIPLEX_AND_TAIL: usize = 9;
+
+const PIPE: usize = 6;
+
+const STREAM: usize = 2;
+
+const SECTION: usize = 2;
+
+// The header of a sheet with these counts.
+pub fn header_of(h: u8, p: u8, s: u8, d: u8) -> [u8; 12]
+    ensures { λ r. ⌜ r ≡ header h p s d ⌝ }
+{
+    let pipes = h as usize + MULTIPLEX_AND_TAIL;
+    let streams = pipes + PIPE * p as usize;
+    let sections = streams + STREAM * s as usize;
+    let end = sections + SECTION * d as usize;
+    [
+        p,
+        s,
+        d,
+        0,
+        (pipes / 256 % 256) as u8,
+        (pipes % 256) as u8,
+        (streams / 256 % 256) as u8,
+        (streams % 256) as u8,
+        (sections / 256 % 256) as u8,
+        (sections % 256) as u8,
+        (end / 256 % 256) as u8,
+        (end % 256) as u8,
+    ]
+}
 
 // A byte of a sheet, and 0 past its end.
 pub fn byte_of(sheet: &[u8], i: usize) -> u8

@@ -1,41 +1,42 @@
+-- `headers::two_at` meets its contract. Assumes nothing.
 use Prim.Native.Nat.{ℕ, _+_, _*_}
 use mathlib.Core.Path.{ap₂}
 use borrow.Author.Needs.{needs}
-use Rattle.forms.proofs.stated.two_at.Statement.{statement}
-use Rattle.forms.proofs.stated.two_at.Tie as tie
-use Rattle.forms.proofs.stated.two_at.Reads as reads
-use Rattle.forms.proofs.stated.two_at.Lts as lts
-use Rattle.forms.proofs.stated.byte_of.Reads as byte-of-reads
+use Rattle.headers.proofs.two_at.Statement.{statement}
+use Rattle.headers.proofs.two_at.Tie as tie
+use Rattle.headers.proofs.two_at.Reads as reads
+use Rattle.headers.proofs.two_at.Lts as lts
+use Rattle.headers.proofs.byte_of.Reads as byte-of-reads
 
--- src/header.rt:29:5
+-- src/lib.rt:56:5
 byte-of-requires : tie.Need-byte-of-requires
 byte-of-requires c κs = search needs
 
--- src/header.rt:29:5
+-- src/lib.rt:56:5
 cast-result : tie.Need-cast-result
 cast-result c = search needs
 
--- src/header.rt:29:5
+-- src/lib.rt:56:5
 mul-result : tie.Need-mul-result
 mul-result c = search needs
 
--- src/header.rt:29:55
+-- src/lib.rt:56:55
 add-byte-of : tie.Need-add-byte-of
 add-byte-of c = search needs
 
--- src/header.rt:29:40
+-- src/lib.rt:56:40
 byte-of-requires-2 : tie.Need-byte-of-requires-2
 byte-of-requires-2 c κs = search needs
 
--- src/header.rt:29:40
+-- src/lib.rt:56:40
 cast-result-2 : tie.Need-cast-result-2
 cast-result-2 c = search needs
 
--- src/header.rt:29:5
+-- src/lib.rt:56:5
 add-result : tie.Need-add-result
 add-result c = search needs
 
--- src/header.rt:25:1
+-- src/lib.rt:52:1
 returns : tie.Need-returns
 returns c = ap₂ (λ (x y : ℕ). x * 256 + y) (c .before .byte-of .ensures) (c .byte-of2 .ensures)
 

@@ -1,21 +1,22 @@
+-- `headers::byte_of` meets its contract. Assumes nothing.
 use mathlib.Core.Path.{sym}
 use native.Mathlib.Omega.{arith}
 use lib.ListN.{List·getD-eq-default}
 use borrow.Author.Needs.{needs}
-use Rattle.forms.proofs.stated.byte_of.Statement.{statement}
-use Rattle.forms.proofs.stated.byte_of.Tie as tie
-use Rattle.forms.proofs.stated.byte_of.Reads as reads
-use Rattle.forms.proofs.stated.byte_of.Lts as lts
+use Rattle.headers.proofs.byte_of.Statement.{statement}
+use Rattle.headers.proofs.byte_of.Tie as tie
+use Rattle.headers.proofs.byte_of.Reads as reads
+use Rattle.headers.proofs.byte_of.Lts as lts
 
--- src/header.rt:19:16
+-- src/lib.rt:46:16
 shared-slice-read-result : tie.Need-shared-slice-read-result
 shared-slice-read-result c = search needs
 
--- src/header.rt:19:9
+-- src/lib.rt:46:9
 returns : tie.Need-returns
 returns c = search needs
 
--- src/header.rt:15:1
+-- src/lib.rt:42:1
 returns-2 : tie.Need-returns-2
 returns-2 c = sym (List·getD-eq-default (c .before .args .sheet .now) 0 (omega (arith, c .if1 .left)))
 
