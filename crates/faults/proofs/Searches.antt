@@ -20,13 +20,14 @@ use Rattle.description.specs.Fields.{table16}
 use Rattle.description.specs.Description.{ownSections}
 use Rattle.description.specs.Tests.{widthWrong, widthFault, tapsOf, tapsWrong, tapFault, idFault}
 use Rattle.description.proofs.Each.{total-take, total-le}
-use Rattle.sheets.specs.Rows.{rowAt, rowsAt}
-use Rattle.sheets.specs.View.{listsAt}
-use Rattle.sheets.specs.Records.{pipeOf, pipeAt}
+use Rattle.views.specs.Rows.{rowAt, rowsAt}
+use Rattle.views.specs.View.{listsAt}
+use Rattle.views.specs.declared.View.{View}
+use Rattle.views.proofs.Rows.{rows-length, rows-get, rows-take, first-fields}
+use Rattle.records.specs.Records.{pipeOf, pipeAt}
+use Rattle.records.specs.declared.Pipe.{Pipe}
 use Rattle.sheets.specs.Owned.{ownedAt}
-use Rattle.sheets.specs.declared.records.Pipe.{Pipe}
-use Rattle.sheets.specs.declared.view.View.{View}
-use Rattle.sheets.proofs.Rows.{rows-length, rows-get, rows-take, first-fields, total-more}
+use Rattle.sheets.proofs.Owning.{total-more}
 use Rattle.faults.specs.Faults.{ownLists, listFault}
 
 -- what is asked of one payload pipe, as it is read

@@ -5,9 +5,9 @@ use mathlib.Core.List.{List}
 use Rattle.ground.specs.Choice.{firstOf}
 use Rattle.description.specs.Description.{Lists}
 use Rattle.description.specs.Tests.{listFaults}
-use Rattle.sheets.specs.View.{listsAt}
+use Rattle.views.specs.View.{listsAt}
+use Rattle.views.specs.declared.View.{View}
 use Rattle.sheets.specs.Owned.{ownedAt}
-use Rattle.sheets.specs.declared.view.View.{View}
 
 unfoldable pub ownLists : View → ℕ → ℕ → List ℕ → Lists
 ownLists v p s w = listsAt v p s (ownedAt w (v .pipes) p .d) w

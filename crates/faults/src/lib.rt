@@ -1,6 +1,6 @@
 // The tests 9, 10 and 11 of the lists that stand where a view says, in a word or in a sheet.
-use sheets::records::Pipe;
-use sheets::view::View;
+use records::Pipe;
+use views::View;
 ghost use mathlib.Core.Path.{_≡_};
 ghost use mathlib.Core.Bool.{not};
 ghost use Prim.Native.Nat.{_+_, _*_, _%_, _≤_, _<_};
@@ -12,7 +12,7 @@ ghost use Rattle.description.specs.Rows.{total};
 ghost use Rattle.description.specs.Fields.{table16};
 ghost use Rattle.description.specs.Description.{ownSections};
 ghost use Rattle.description.specs.Tests.{tapsOf, widthFault, tapFault, idFault};
-ghost use Rattle.sheets.specs.Rows.{rowsAt};
+ghost use Rattle.views.specs.Rows.{rowsAt};
 ghost use Rattle.faults.specs.Faults.{listFault};
 
 // The patterns of table 8, and the taps that a payload pipe in use has (clause 4.10.7).
@@ -37,7 +37,7 @@ fn any_width_wrong(w: &[u8], at: u32, p: u8) -> bool
 {
     let mut i: u8 = 0;
     while i < p {
-        if width_wrong(sheets::records::pipe_at(w, at, i)) {
+        if width_wrong(records::pipe_at(w, at, i)) {
             return true;
         }
         i += 1;
@@ -79,7 +79,7 @@ fn any_taps_wrong(w: &[u8], v: View, p: u8) -> bool
     let mut from = v.sections as usize;
     let mut i: u8 = 0;
     while i < p {
-        let q = sheets::records::pipe_at(w, v.pipes, i);
+        let q = records::pipe_at(w, v.pipes, i);
         if taps_wrong(w, q, from, apart) {
             return true;
         }
@@ -98,7 +98,7 @@ fn id_twice(w: &[u8], at: u32, s: u16) -> bool
     while 0 < i {
         i -= 1;
         // STS_ID (table 18)
-        let id = bits::field(w, at as usize + sheets::view::STREAM as usize * i, 8) as usize;
+        let id = bits::field(w, at as usize + views::STREAM as usize * i, 8) as usize;
         if seen[id] {
             return true;
         }

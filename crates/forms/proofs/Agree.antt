@@ -10,9 +10,9 @@ use Rattle.sheets.proofs.Told.{told-one}
 use Rattle.forms.proofs.check as check
 use Rattle.forms.proofs.check.Kinds as check-kinds
 use Rattle.forms.proofs.check.Reads as check-reads
-use Rattle.forms.proofs.records.record_fault as record-fault
-use Rattle.forms.proofs.records.record_fault.Kinds as record-fault-kinds
-use Rattle.forms.proofs.records.record_fault.Reads as record-fault-reads
+use Rattle.forms.proofs.judge.record_fault as record-fault
+use Rattle.forms.proofs.judge.record_fault.Kinds as record-fault-kinds
+use Rattle.forms.proofs.judge.record_fault.Reads as record-fault-reads
 
 module _ (κs : Lfts 1) (a : ArgsD record-fault.signature κs) where
   pub record-fault-agrees : (r r′ : ResD record-fault.signature κs) (s s′ : AtExit (endedOf 1 record-fault-kinds.ps record-fault-kinds.r) κs) →

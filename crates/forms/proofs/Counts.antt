@@ -17,14 +17,14 @@ use Rattle.description.specs.Rules.{size}
 use Rattle.description.specs.Sheet.{sheetEnd, sectionsFrom}
 use Rattle.description.specs.Tests.{versionFault, listsFault, anySet, listFaults}
 use Rattle.description.specs.Form1.{topFault, countFault, recordFaults}
-use Rattle.sheets.specs.View.{sheetView, listsAt}
-use Rattle.sheets.specs.Records.{multiplexOf, multiplexAt}
+use Rattle.views.specs.View.{sheetView, listsAt}
+use Rattle.views.specs.declared.View.{View}
+use Rattle.views.proofs.Views.{sheet-places}
+use Rattle.views.proofs.Lists.{tops-are, sheet-lists}
+use Rattle.records.specs.Records.{multiplexOf, multiplexAt}
+use Rattle.records.specs.declared.Multiplex.{Multiplex}
 use Rattle.sheets.specs.Owned.{ownedAt, tailOwnedAt}
-use Rattle.sheets.specs.declared.view.View.{View}
-use Rattle.sheets.specs.declared.records.Multiplex.{Multiplex}
 use Rattle.sheets.specs.declared.owned.Share.{Share}
-use Rattle.sheets.proofs.Views.{sheet-places}
-use Rattle.sheets.proofs.Lists.{tops-are, sheet-lists}
 use Rattle.faults.specs.Faults.{ownLists, listFault}
 use Rattle.forms.specs.Records.{sheetListsAt, recordFaultsAt, recordFault}
 

@@ -8,7 +8,7 @@ use Rattle.description.specs.Description.{Lists}
 use Rattle.description.specs.Sheet.{sectionsFrom}
 use Rattle.description.specs.Tests.{versionFault, listsFault, anySet, listFaults}
 use Rattle.description.specs.Form1.{countFault}
-use Rattle.sheets.specs.View.{sheetView, listsAt}
+use Rattle.views.specs.View.{sheetView, listsAt}
 
 -- the lists of a sheet with a header of h bytes
 unfoldable pub sheetListsAt : ℕ → ℕ → ℕ → ℕ → List ℕ → Lists

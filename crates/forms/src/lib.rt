@@ -1,8 +1,8 @@
 // Forms of a sheet (document 01): its records judged over counts that are given, and the whole judged over those that its header states.
-pub mod records;
+pub mod judge;
 
 use sheets::answer::Answer;
-use sheets::view::FORM1;
+use views::FORM1;
 ghost use mathlib.Core.Path.{_≡_};
 ghost use Rattle.bits.specs.Lists.{Below};
 ghost use Rattle.description.specs.Form1.{checked};
@@ -18,7 +18,7 @@ pub fn check(sheet: &[u8]) -> Answer
     let p = headers::byte_of(sheet, 0);
     let s = headers::byte_of(sheet, 1) as u16;
     let d = headers::byte_of(sheet, 2) as u16;
-    let n = records::record_fault(sheet, FORM1, p, s, d);
+    let n = judge::record_fault(sheet, FORM1, p, s, d);
     if n != 0 {
         return Answer::Refused(n);
     }

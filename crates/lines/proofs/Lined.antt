@@ -11,13 +11,13 @@ use Rattle.ground.specs.Outcome.{Is}
 use Rattle.ground.proofs.Choice.{choose-true, choose-false}
 use Rattle.description.specs.Fields.{table16, table16b, table18, table19, tailWidth}
 use Rattle.description.specs.Description.{Lists}
-use Rattle.sheets.specs.Rows.{rowAt, rowsAt}
-use Rattle.sheets.specs.View.{sheetView, listsAt}
-use Rattle.sheets.specs.Records.{multiplexOf, multiplexAt, pipeOf, pipeAt, tailAt}
-use Rattle.sheets.specs.declared.view.View.{View}
-use Rattle.sheets.specs.declared.records.Multiplex.{Multiplex}
-use Rattle.sheets.specs.declared.records.Pipe.{Pipe}
-use Rattle.sheets.proofs.Rows.{rows-length, rows-more}
+use Rattle.views.specs.Rows.{rowAt, rowsAt}
+use Rattle.views.specs.View.{sheetView, listsAt}
+use Rattle.views.specs.declared.View.{View}
+use Rattle.views.proofs.Rows.{rows-length, rows-more}
+use Rattle.records.specs.Records.{multiplexOf, multiplexAt, pipeOf, pipeAt, tailAt}
+use Rattle.records.specs.declared.Multiplex.{Multiplex}
+use Rattle.records.specs.declared.Pipe.{Pipe}
 use Rattle.ground.specs.Table.{tab}
 use Rattle.words.specs.Words.{filled, line, put}
 use Rattle.words.proofs.Puts.{put-none, put-same, put-long, put-more}

@@ -1,10 +1,10 @@
 // The lines of an accepted sheet's listing (document 01, "Points on either side"), put into a buffer: each function returns the place behind its text.
-use sheets::view::FORM1;
+use views::FORM1;
 ghost use Rattle.ground.specs.Outcome.{Is};
 ghost use Rattle.description.specs.Sheet.{form1};
 ghost use Rattle.description.specs.Fields.{table16, table16b};
-ghost use Rattle.sheets.specs.Rows.{rowAt, rowsAt};
-ghost use Rattle.sheets.specs.View.{sheetView, listsAt};
+ghost use Rattle.views.specs.Rows.{rowAt, rowsAt};
+ghost use Rattle.views.specs.View.{sheetView, listsAt};
 ghost use Rattle.words.specs.Words.{put};
 ghost use Rattle.lines.specs.Lines.{pipeLines, tailLine, accepted};
 
@@ -15,7 +15,7 @@ fn pipes(sheet: &[u8], at: u32, p: u8, out: &mut [u8], to: usize) -> usize
     let mut next = to;
     let mut i: u8 = 0;
     while i < p {
-        let q = sheets::records::pipe_at(sheet, at, i);
+        let q = records::pipe_at(sheet, at, i);
         next = words::line(
             out,
             next,
@@ -31,7 +31,7 @@ fn pipes(sheet: &[u8], at: u32, p: u8, out: &mut [u8], to: usize) -> usize
 fn tail(sheet: &[u8], at: u32, out: &mut [u8], to: usize) -> usize
     ensures { λ r. ⌜ Is (put (now (out .entry)) to (tailLine (rowAt table16b (now (sheet .entry)) at))) r (now (out .exit)) ⌝ }
 {
-    let width = sheets::records::tail_at(sheet, at);
+    let width = records::tail_at(sheet, at);
     if width == 0 {
         return words::line(out, to, b"tail unused\n", &[]);
     }
@@ -42,8 +42,8 @@ fn tail(sheet: &[u8], at: u32, out: &mut [u8], to: usize) -> usize
 pub fn lines(sheet: &[u8], p: u8, s: u16, d: u16, out: &mut [u8]) -> usize
     ensures { λ r. ⌜ Is (put (now (out .entry)) 0 (accepted (listsAt (sheetView form1 p s) p s d (now (sheet .entry))))) r (now (out .exit)) ⌝ }
 {
-    let v = sheets::view::of_sheet(FORM1, p, s);
-    let m = sheets::records::multiplex_at(sheet, v.multiplex);
+    let v = views::of_sheet(FORM1, p, s);
+    let m = records::multiplex_at(sheet, v.multiplex);
     let to = words::line(
         out,
         0,

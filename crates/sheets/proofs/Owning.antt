@@ -1,26 +1,51 @@
--- The loop that adds up what pipes own, and what the tail owns.
+-- What a pipe owns is small, the loop that adds up what pipes own, and what the tail owns.
 -- Assumes nothing.
 use Prim.Native.Nat.{ℕ, zero, suc, _+_, _*_, _≤_, _<_}
 use mathlib.Core.Path.{_≡_, refl, sym, ap, ap₂, _∙_, subst}
-use mathlib.Core.List.{List}
+use mathlib.Core.List.{List, [], _∷_, _++_}
 use native.Mathlib.Nat.{mul-le-mul-left, mul-le-mul-right}
 use native.Mathlib.Numerals.{add-one}
 use native.Mathlib.Omega.{arith}
 use borrow.Author.Tests.{eq-eqb, ne-eqb}
 use Rattle.ground.specs.Table.{tab}
 use Rattle.ground.proofs.Choice.{choose-true, choose-false}
-use Rattle.description.specs.Rows.{total}
+use Rattle.bits.proofs.Places.{field-lt}
+use Rattle.description.specs.Rows.{Row, total}
 use Rattle.description.specs.Fields.{table16, table16b, tailWidth}
 use Rattle.description.specs.Description.{ownStreams, ownSections, tailOwns}
-use Rattle.description.proofs.Bounds.{tail-bound}
-use Rattle.sheets.specs.Rows.{rowAt, rowsAt}
-use Rattle.sheets.specs.Records.{pipeOf, pipeAt, tailAt}
+use Rattle.description.proofs.Bounds.{own-bounds, tail-bound}
+use Rattle.views.specs.Rows.{rowFrom, rowAt, rowsAt}
+use Rattle.views.specs.declared.View.{View}
+use Rattle.views.proofs.Rows.{Narrow, rows-more}
+use Rattle.views.proofs.Lists.{table16-narrow}
+use Rattle.records.specs.Records.{pipeOf, pipeAt, tailAt}
+use Rattle.records.specs.declared.Pipe.{Pipe}
 use Rattle.sheets.specs.Owned.{ownedAt, tailOwnedAt, placesAt}
-use Rattle.sheets.specs.declared.records.Pipe.{Pipe}
-use Rattle.sheets.specs.declared.view.View.{View}
 use Rattle.sheets.specs.declared.owned.Share.{Share}
 use Rattle.sheets.specs.declared.owned.Places.{Places}
-use Rattle.sheets.proofs.Rows.{total-more, pipe-bounds}
+
+-- ---- what one pipe owns
+row-fits : (t w : List ℕ) (at o : ℕ) → Narrow t → Row t (rowFrom t w at o)
+unfolding Row rowFrom
+row-fits [] w at o h = tt
+row-fits (k ∷ t) w at o h = (field-lt w (at + o) k (h .0), row-fits t w at (o + k) (h .1))
+
+pub pipe-bounds : (w : List ℕ) (at : ℕ) → (ownStreams (rowAt table16 w at) ≤ 32) × (ownSections (rowAt table16 w at) ≤ 8)
+unfolding rowAt
+pipe-bounds w at = let b = own-bounds (rowFrom table16 w at 0) (row-fits table16 w at 0 table16-narrow) in (b .0, b .1)
+
+-- ---- what the first pipes own
+total-append : {A : Type 0} (f : A → ℕ) (a b : List A) → total f (a ++ b) ≡ total f a + total f b
+unfolding total
+total-append f [] b = omega arith
+total-append f (x ∷ a) b = omega (arith, total-append f a b)
+
+pub total-more : (f : List ℕ → ℕ) (t : List ℕ) (apart : ℕ) (w : List ℕ) (at n : ℕ)
+    → total f (rowsAt t apart (n + 1) w at) ≡ total f (rowsAt t apart n w at) + f (rowAt t w (at + apart * n))
+unfolding total
+total-more f t apart w at n =
+    ap (total f) (rows-more t apart w at n) ∙ total-append f (rowsAt t apart n w at) (rowAt t w (at + apart * n) ∷ [])
+    ∙ omega arith
 
 abbrev pub share : ℕ → ℕ → Share
 share s d = record { s = s; d = d }

@@ -1,5 +1,2 @@
-pub mod Rows
-pub mod View
-pub mod Records
 pub mod Owned
 pub mod Answers

@@ -5,8 +5,8 @@ use mathlib.Core.List.{List}
 use Rattle.description.specs.Rows.{total}
 use Rattle.description.specs.Fields.{table16, table16b}
 use Rattle.description.specs.Description.{ownStreams, ownSections, tailOwns}
-use Rattle.sheets.specs.Rows.{rowAt, rowsAt}
-use Rattle.sheets.specs.declared.view.View.{View}
+use Rattle.views.specs.Rows.{rowAt, rowsAt}
+use Rattle.views.specs.declared.View.{View}
 use Rattle.sheets.specs.declared.owned.Share.{Share}
 use Rattle.sheets.specs.declared.owned.Places.{Places}
 

@@ -1,6 +1,3 @@
-// Sheets and signalling words side by side: where their records stand, what stands in a record, and what the pipes own. All of it is said by bit places of packed
-// bytes, so that words and sheets share it; a place past the end reads zero.
+// What the pipes of a signalling word or of a sheet own, and what is said of a word or of a sheet that was judged.
 pub mod answer;
 pub mod owned;
-pub mod records;
-pub mod view;

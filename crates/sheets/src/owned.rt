@@ -1,7 +1,7 @@
 // What the pipes own together, and by it where a pipe's own streams and sections stand (clauses 4.10.3 and 4.10.7).
-use crate::records::pipe_at;
-use crate::records::tail_at;
-use crate::view::View;
+use records::pipe_at;
+use records::tail_at;
+use views::View;
 ghost use mathlib.Core.Path.{_≡_};
 ghost use Rattle.sheets.specs.Owned.{ownedAt, tailOwnedAt, placesAt};
 
@@ -50,8 +50,8 @@ pub fn places_of(w: &[u8], v: View, k: u8) -> Places
 {
     let own = owned_at(w, v.pipes, k);
     Places {
-        pipe: v.pipes as usize + crate::view::PIPE as usize * k as usize,
-        streams: v.streams as usize + crate::view::STREAM as usize * own.s as usize,
+        pipe: v.pipes as usize + views::PIPE as usize * k as usize,
+        streams: v.streams as usize + views::STREAM as usize * own.s as usize,
         sections: v.sections as usize + v.apart as usize * own.d as usize,
     }
 }

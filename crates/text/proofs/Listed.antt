@@ -16,8 +16,8 @@ use Rattle.description.specs.Sheet.{form1}
 use Rattle.description.specs.Header.{pStated, sStated, dStated}
 use Rattle.description.specs.Form1.{listsStated, sheetFaults, recordFaults, checked}
 use Rattle.description.proofs.Restated.{right-header}
-use Rattle.sheets.specs.View.{sheetView, listsAt}
-use Rattle.sheets.proofs.Lists.{sheet-lists}
+use Rattle.views.specs.View.{sheetView, listsAt}
+use Rattle.views.proofs.Lists.{sheet-lists}
 use Rattle.sheets.proofs.Found.{Found, counted, counted-found}
 use Rattle.words.specs.Words.{put}
 use Rattle.words.proofs.Puts.{put-front}

@@ -16,8 +16,8 @@ use Rattle.description.specs.Rules.{size}
 use Rattle.description.specs.Sheet.{form1, inSheet, header, records, sheetOf}
 use Rattle.description.specs.Word.{multiplexIn, pIn, pipesIn, tailIn, sIn, dIn, streamsIn, sectionsIn, listsIn, front}
 use Rattle.description.proofs.Rows.{cuts-length, pack-cut, pack-cuts}
-use Rattle.sheets.specs.declared.view.View.{View}
-use Rattle.sheets.proofs.Views.{WordPlaces, SheetPlaces}
+use Rattle.views.specs.declared.View.{View}
+use Rattle.views.proofs.Views.{WordPlaces, SheetPlaces}
 use Rattle.to_sheet.proofs.Copies.{sheetBits, sheetSections}
 
 pub header-length : (p s d : ℕ) → length (header form1 p s d) ≡ 12

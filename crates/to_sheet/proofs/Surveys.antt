@@ -24,12 +24,12 @@ use Rattle.description.specs.Description.{ownStreams, ownSections, tailOwns, st
 use Rattle.description.specs.Rules.{size}
 use Rattle.description.specs.Tests.{versionFault, listsFault, anySet, listFaults}
 use Rattle.description.specs.Word.{multiplexIn, pIn, pipesIn, tailIn, sIn, dIn, spareFault, crcFault, paddingFault, wordFaults, surveyed}
-use Rattle.sheets.specs.Rows.{rowAt, rowsAt}
-use Rattle.sheets.specs.View.{wordView, listsAt}
+use Rattle.views.specs.Rows.{rowAt, rowsAt}
+use Rattle.views.specs.View.{wordView, listsAt}
+use Rattle.views.specs.declared.View.{View}
+use Rattle.views.proofs.Rows.{row-is, rows-are}
+use Rattle.views.proofs.Lists.{table15-narrow, table16-narrow, table16b-narrow, lists-in}
 use Rattle.sheets.specs.Owned.{ownedAt, tailOwnedAt}
-use Rattle.sheets.specs.declared.view.View.{View}
-use Rattle.sheets.proofs.Rows.{row-is, rows-are, table16-narrow}
-use Rattle.sheets.proofs.Lists.{table15-narrow, table16b-narrow, lists-in}
 use Rattle.faults.specs.Faults.{ownLists, listFault}
 use Rattle.walk.specs.Tour.{pOf, sOf, dOf, tourOf}
 use Rattle.walk.specs.declared.Toured.{Toured}

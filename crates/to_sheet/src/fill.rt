@@ -1,12 +1,12 @@
 // The sheet of an accepted word, written part by part into the front of the lent room.
-use sheets::view::FORM1;
-use sheets::view::MULTIPLEX;
-use sheets::view::PIPE;
-use sheets::view::SECTION;
-use sheets::view::STREAM;
-use sheets::view::TAIL;
-use sheets::view::of_sheet;
-use sheets::view::of_word;
+use views::FORM1;
+use views::MULTIPLEX;
+use views::PIPE;
+use views::SECTION;
+use views::STREAM;
+use views::TAIL;
+use views::of_sheet;
+use views::of_word;
 ghost use mathlib.Core.Path.{_≡_};
 ghost use mathlib.Core.List.{_∷_};
 ghost use Prim.Native.Nat.{_+_, _*_, _/_, _≤_, _<_};

@@ -54,7 +54,7 @@ pub fn survey(word: &[u8]) -> Answer
     if any_set(word, end, SIGNALLING_LISTS) {
         return Answer::Refused(ground::PADDING_SET);
     }
-    let n = faults::list_fault(word, sheets::view::of_word(t.p, t.s), t.p, t.s);
+    let n = faults::list_fault(word, views::of_word(t.p, t.s), t.p, t.s);
     if n != 0 {
         return Answer::Refused(n);
     }

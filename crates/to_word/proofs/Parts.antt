@@ -26,8 +26,8 @@ use Rattle.description.specs.Form1.{bare, sheetSections, sheetLists}
 use Rattle.description.proofs.Rows.{join-length, joins-length, join-cut, joins-cuts, joins-at, cuts-at, cuts-length}
 use Rattle.description.proofs.Form1.{bare-length}
 use Rattle.description.proofs.Word.{body-below}
-use Rattle.sheets.specs.View.{sheetView}
-use Rattle.sheets.specs.declared.view.View.{View}
+use Rattle.views.specs.View.{sheetView}
+use Rattle.views.specs.declared.View.{View}
 use Rattle.to_word.specs.Laid.{Puts, Padded, Seals}
 use Rattle.to_word.proofs.Sinks.{bitsOf}
 

@@ -1,13 +1,13 @@
 // The word of an accepted sheet, through the sink: the lists in the order of table 14, zeros behind them, and the CRC.
 use ground::SIGNALLING_LISTS;
 use ground::SIGNALLING_WORD;
-use sheets::view::FORM1;
-use sheets::view::MULTIPLEX;
-use sheets::view::PIPE;
-use sheets::view::SECTION;
-use sheets::view::STREAM;
-use sheets::view::TAIL;
-use sheets::view::of_sheet;
+use views::FORM1;
+use views::MULTIPLEX;
+use views::PIPE;
+use views::SECTION;
+use views::STREAM;
+use views::TAIL;
+use views::of_sheet;
 use wide::Wide;
 use wide::put;
 ghost use mathlib.Core.Path.{_≡_};

@@ -14,10 +14,10 @@ use Rattle.description.specs.Fields.{table16, table16b}
 use Rattle.description.specs.Rules.{size}
 use Rattle.description.specs.Description.{ownStreams, ownSections}
 use Rattle.description.proofs.Bounds.{tail-bound}
-use Rattle.sheets.specs.Rows.{rowFrom, rowAt, rowsAt}
+use Rattle.views.specs.Rows.{rowFrom, rowAt, rowsAt}
 use Rattle.sheets.specs.Owned.{ownedAt, tailOwnedAt}
 use Rattle.sheets.specs.declared.owned.Share.{Share}
-use Rattle.sheets.proofs.Rows.{pipe-bounds, total-more}
+use Rattle.sheets.proofs.Owning.{pipe-bounds, total-more}
 use Rattle.walk.specs.Steps.{onward, withTail, foundOf}
 use Rattle.walk.specs.Tour.{pOf, sOf, dOf, tourOf}
 use Rattle.walk.specs.declared.Toured.{Toured}

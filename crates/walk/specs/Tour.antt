@@ -4,7 +4,7 @@ use Prim.Native.Nat.{ℕ, _+_, _*_}
 use mathlib.Core.List.{List}
 use Rattle.description.specs.Fields.{table15, sigPipeVer, numPipes1}
 use Rattle.description.specs.Rules.{size}
-use Rattle.sheets.specs.Rows.{rowAt}
+use Rattle.views.specs.Rows.{rowAt}
 use Rattle.sheets.specs.Owned.{ownedAt, tailOwnedAt}
 use Rattle.walk.specs.declared.Toured.{Toured}
 

@@ -5,10 +5,10 @@ mod reader;
 use crate::plain::found;
 use crate::plain::with_tail;
 use crate::reader::Reader;
-use sheets::view::PIPE;
-use sheets::view::SECTION;
-use sheets::view::STREAM;
-use sheets::view::TAIL;
+use views::PIPE;
+use views::SECTION;
+use views::STREAM;
+use views::TAIL;
 ghost use mathlib.Core.Path.{_≡_};
 ghost use Rattle.walk.specs.Tour.{tourOf};
 

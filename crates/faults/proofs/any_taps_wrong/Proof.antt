@@ -9,7 +9,7 @@ use Rattle.faults.proofs.any_taps_wrong.Tie as tie
 use Rattle.faults.proofs.any_taps_wrong.Reads as reads
 use Rattle.faults.proofs.any_taps_wrong.Lts as lts
 use Rattle.faults.proofs.taps_wrong.Reads as taps-wrong-reads
-use Rattle.sheets.proofs.records.pipe_at.Reads as pipe-at-reads
+use Rattle.records.proofs.pipe_at.Reads as pipe-at-reads
 
 abbrev Inv-loop : tie.InvT-loop
 Inv-loop w v p apart from₀ i₀ from i = Tapped w v p i from

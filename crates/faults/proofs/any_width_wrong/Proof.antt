@@ -5,7 +5,7 @@ use lib.ListN.{drop}
 use Rattle.ground.specs.Choice.{any}
 use Rattle.description.specs.Fields.{table16}
 use Rattle.description.specs.Tests.{widthWrong, widthFault}
-use Rattle.sheets.specs.Rows.{rowsAt}
+use Rattle.views.specs.Rows.{rowsAt}
 use Rattle.faults.proofs.Searches.{widths-found, widths-more, widths-done}
 use borrow.Author.Needs.{needs}
 use Rattle.faults.proofs.any_width_wrong.Statement.{statement}
@@ -13,7 +13,7 @@ use Rattle.faults.proofs.any_width_wrong.Tie as tie
 use Rattle.faults.proofs.any_width_wrong.Reads as reads
 use Rattle.faults.proofs.any_width_wrong.Lts as lts
 use Rattle.faults.proofs.width_wrong.Reads as width-wrong-reads
-use Rattle.sheets.proofs.records.pipe_at.Reads as pipe-at-reads
+use Rattle.records.proofs.pipe_at.Reads as pipe-at-reads
 
 abbrev Inv-loop : tie.InvT-loop
 Inv-loop w at p i₀ i = (i ≤ p) × (widthFault (rowsAt table16 48 p w at) ≡ any widthWrong (drop i (rowsAt table16 48 p w at)))

@@ -10,7 +10,7 @@ use Rattle.forms.proofs.check.Reads as reads
 use Rattle.forms.proofs.check.Lts as lts
 use Rattle.headers.proofs.byte_of.Reads as byte-of-reads
 use Rattle.headers.proofs.header_wrong.Reads as header-wrong-reads
-use Rattle.forms.proofs.records.record_fault.Reads as record-fault-reads
+use Rattle.forms.proofs.judge.record_fault.Reads as record-fault-reads
 
 -- what is lent is bytes
 bytes : (c : tie.After-shared-slice-known) → Below 256 (c .before .args .sheet .now)

@@ -6,8 +6,8 @@ use Rattle.lines.proofs.lines.Statement.{statement}
 use Rattle.lines.proofs.lines.Tie as tie
 use Rattle.lines.proofs.lines.Reads as reads
 use Rattle.lines.proofs.lines.Lts as lts
-use Rattle.sheets.proofs.records.multiplex_at.Reads as multiplex-at-reads
-use Rattle.sheets.proofs.view.of_sheet.Reads as of-sheet-reads
+use Rattle.views.proofs.of_sheet.Reads as of-sheet-reads
+use Rattle.records.proofs.multiplex_at.Reads as multiplex-at-reads
 use Rattle.lines.proofs.pipes.Reads as pipes-reads
 use Rattle.lines.proofs.tail.Reads as tail-reads
 use Rattle.words.proofs.line.Reads as line-reads

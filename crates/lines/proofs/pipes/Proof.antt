@@ -6,7 +6,7 @@ use Rattle.lines.proofs.pipes.Statement.{statement}
 use Rattle.lines.proofs.pipes.Tie as tie
 use Rattle.lines.proofs.pipes.Reads as reads
 use Rattle.lines.proofs.pipes.Lts as lts
-use Rattle.sheets.proofs.records.pipe_at.Reads as pipe-at-reads
+use Rattle.records.proofs.pipe_at.Reads as pipe-at-reads
 use Rattle.words.proofs.line.Reads as line-reads
 
 abbrev Inv-loop : tie.InvT-loop

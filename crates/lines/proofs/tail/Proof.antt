@@ -6,7 +6,7 @@ use Rattle.lines.proofs.tail.Statement.{statement}
 use Rattle.lines.proofs.tail.Tie as tie
 use Rattle.lines.proofs.tail.Reads as reads
 use Rattle.lines.proofs.tail.Lts as lts
-use Rattle.sheets.proofs.records.tail_at.Reads as tail-at-reads
+use Rattle.records.proofs.tail_at.Reads as tail-at-reads
 use Rattle.words.proofs.line.Reads as line-reads
 
 tail-at-requires : tie.Need-tail-at-requires

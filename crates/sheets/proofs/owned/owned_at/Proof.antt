@@ -2,13 +2,13 @@ use Prim.Native.Nat.{_-_, _≤_}
 use native.Mathlib.Omega.{arith}
 use mathlib.Core.Path.{ap, _∙_}
 use borrow.Author.Needs.{needs}
+use Rattle.records.proofs.pipe_at.Reads as pipe-at-reads
 use Rattle.sheets.specs.Owned.{ownedAt}
 use Rattle.sheets.proofs.Owning.{Sum, sum-none, sum-more, pipe-small}
 use Rattle.sheets.proofs.owned.owned_at.Statement.{statement}
 use Rattle.sheets.proofs.owned.owned_at.Tie as tie
 use Rattle.sheets.proofs.owned.owned_at.Reads as reads
 use Rattle.sheets.proofs.owned.owned_at.Lts as lts
-use Rattle.sheets.proofs.records.pipe_at.Reads as pipe-at-reads
 
 abbrev Inv-loop : tie.InvT-loop
 Inv-loop w at p s₀ d₀ i₀ s d i = (i ≤ p) × Sum w at i s d

@@ -1,10 +1,10 @@
 use Rattle.sheets.proofs.Owning.{tail-none, tail-some}
 use borrow.Author.Needs.{needs}
+use Rattle.records.proofs.tail_at.Reads as tail-at-reads
 use Rattle.sheets.proofs.owned.tail_owned_at.Statement.{statement}
 use Rattle.sheets.proofs.owned.tail_owned_at.Tie as tie
 use Rattle.sheets.proofs.owned.tail_owned_at.Reads as reads
 use Rattle.sheets.proofs.owned.tail_owned_at.Lts as lts
-use Rattle.sheets.proofs.records.tail_at.Reads as tail-at-reads
 
 -- src/owned.rt:33:8
 tail-at-requires : tie.Need-tail-at-requires

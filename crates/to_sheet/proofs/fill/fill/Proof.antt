@@ -6,15 +6,15 @@ use lib.ListN.{length}
 use Rattle.bits.specs.Lists.{unpack}
 use Rattle.bits.proofs.Lists.{unpack-below, unpack-length}
 use Rattle.description.specs.Sheet.{form1}
-use Rattle.sheets.proofs.Views.{WordPlaces, SheetPlaces, word-places, sheet-places}
+use Rattle.views.proofs.Views.{WordPlaces, SheetPlaces, word-places, sheet-places}
 use Rattle.to_sheet.proofs.Fills.{filled}
 use borrow.Author.Needs.{needs}
 use Rattle.to_sheet.proofs.fill.fill.Statement.{statement}
 use Rattle.to_sheet.proofs.fill.fill.Tie as tie
 use Rattle.to_sheet.proofs.fill.fill.Reads as reads
 use Rattle.to_sheet.proofs.fill.fill.Lts as lts
-use Rattle.sheets.proofs.view.of_sheet.Reads as of-sheet-reads
-use Rattle.sheets.proofs.view.of_word.Reads as of-word-reads
+use Rattle.views.proofs.of_sheet.Reads as of-sheet-reads
+use Rattle.views.proofs.of_word.Reads as of-word-reads
 use Rattle.to_sheet.proofs.fill.copy_bytes.Reads as copy-bytes-reads
 use Rattle.to_sheet.proofs.fill.copy_sections.Reads as copy-sections-reads
 use Rattle.to_sheet.proofs.fill.put_header.Reads as put-header-reads

@@ -19,7 +19,7 @@ use Rattle.to_sheet.proofs.survey.survey.Lts as lts
 use Rattle.bits.proofs.field.Reads as field-reads
 use Rattle.crc.proofs.crc12.Reads as crc12-reads
 use Rattle.faults.proofs.list_fault.Reads as list-fault-reads
-use Rattle.sheets.proofs.view.of_word.Reads as of-word-reads
+use Rattle.views.proofs.of_word.Reads as of-word-reads
 use Rattle.to_sheet.proofs.survey.any_set.Reads as any-set-reads
 use Rattle.walk.proofs.tour.Reads as tour-reads
 

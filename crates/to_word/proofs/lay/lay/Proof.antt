@@ -2,14 +2,14 @@ use mathlib.Core.Path.{sym, _∙_}
 use native.Mathlib.Omega.{arith}
 use denote.Ref.{now}
 use Rattle.description.specs.Sheet.{form1}
-use Rattle.sheets.proofs.Views.{sheet-places}
+use Rattle.views.proofs.Views.{sheet-places}
 use Rattle.to_word.proofs.Parts.{Laid, laid, padded-bytes, word-laid, word-bytes}
 use borrow.Author.Needs.{needs}
 use Rattle.to_word.proofs.lay.lay.Statement.{statement}
 use Rattle.to_word.proofs.lay.lay.Tie as tie
 use Rattle.to_word.proofs.lay.lay.Reads as reads
 use Rattle.to_word.proofs.lay.lay.Lts as lts
-use Rattle.sheets.proofs.view.of_sheet.Reads as of-sheet-reads
+use Rattle.views.proofs.of_sheet.Reads as of-sheet-reads
 use Rattle.to_word.proofs.lay.pad.Reads as pad-reads
 use Rattle.to_word.proofs.lay.put_fields.Reads as put-fields-reads
 use Rattle.to_word.proofs.lay.seal.Reads as seal-reads

@@ -1,5 +1,5 @@
 use native.Mathlib.Omega.{arith}
-use Rattle.sheets.proofs.Fields.{read-lt}
+use Rattle.records.proofs.Fields.{read-lt}
 use borrow.Author.Needs.{needs}
 use Rattle.walk.proofs.plain.pipes_at.Statement.{statement}
 use Rattle.walk.proofs.plain.pipes_at.Tie as tie
