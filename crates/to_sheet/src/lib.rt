@@ -1,9 +1,7 @@
 // From signalling word to sheet (clause 4.10).
 mod fill;
-mod survey;
 
 use ground::LENGTH_WRONG;
-use ground::SIGNALLING_WORD;
 use sheets::answer::Answer;
 ghost use Rattle.ground.specs.Outcome.{Is};
 ghost use Rattle.bits.specs.Lists.{Below};
@@ -17,9 +15,6 @@ const ROOM: usize = 128;
 pub fn read(word: &[u8], sheet: &mut [u8]) -> Answer
     ensures { λ r. ⌜ Is (reading (now (word .entry)) (now (sheet .entry))) (told r) (now (sheet .exit)) × Below 256 (now (word .entry)) ⌝ }
 {
-    if word.len() != SIGNALLING_WORD {
-        return Answer::Refused(LENGTH_WRONG);
-    }
     if sheet.len() < ROOM {
         return Answer::Refused(LENGTH_WRONG);
     }

@@ -3,7 +3,7 @@ use mathlib.Core.Path.{sym, ap, _∙_, subst}
 use Rattle.ground.specs.Outcome.{Is}
 use Rattle.description.specs.Word.{reading}
 use Rattle.sheets.specs.Answers.{told}
-use Rattle.to_sheet.proofs.Readings.{word-length, room-length, reading-refused, reading-done, counts}
+use Rattle.to_sheet.proofs.Readings.{room-length, reading-refused, reading-done, counts}
 use native.Mathlib.Omega.{arith}
 use Rattle.bits.specs.Lists.{Below}
 use Rattle.bits.proofs.Below.{below-of}
@@ -13,7 +13,7 @@ use Rattle.to_sheet.proofs.read.Tie as tie
 use Rattle.to_sheet.proofs.read.Reads as reads
 use Rattle.to_sheet.proofs.read.Lts as lts
 use Rattle.to_sheet.proofs.fill.fill.Reads as fill-reads
-use Rattle.to_sheet.proofs.survey.survey.Reads as survey-reads
+use Rattle.survey.proofs.survey.Reads as survey-reads
 
 -- what is lent is bytes
 bytes : (c : tie.After-shared-slice-known) → Below 256 (c .before .args .word .now)
@@ -22,12 +22,7 @@ bytes c = below-of 256 (c .before .args .word .now) (λ i. omega (arith, c .shar
 returns : tie.Need-returns
 returns c =
     let a = c .before .before .before .args in
-    (word-length (a .word .now) (a .sheet .now) (c .if1 .taken), bytes (c .before .before))
-
-returns-2 : tie.Need-returns-2
-returns-2 c =
-    let a = c .before .before .before .before .args in
-    (room-length (a .word .now) (a .sheet .now) (search needs) (c .if2 .taken), bytes (c .before .before .before))
+    (room-length (a .word .now) (a .sheet .now) (search needs), bytes (c .before .before))
 
 survey-requires : tie.Need-survey-requires
 survey-requires c κs = search needs
@@ -38,31 +33,31 @@ enum-known-found c = search needs
 enum-told : tie.Need-enum-told
 enum-told c = search needs
 
-returns-3 : tie.Need-returns-3
-returns-3 c =
-    let a = c .before .before .before .before .before .before .before .args in
+returns-2 : tie.Need-returns-2
+returns-2 c =
+    let a = c .before .before .before .before .before .before .args in
     let e = c .enum-told .given .1 in (
       subst (λ t. Is (reading (a .word .now) (a .sheet .now)) (told t) (a .sheet .now)) (sym e)
-          (reading-refused (a .word .now) (a .sheet .now) (search needs) (search needs) (c .enum-told .given .0 .0) (sym (ap told e) ∙ c .before .before .survey .ensures)),
-      bytes (c .before .before .before .before .before .before),
+          (reading-refused (a .word .now) (a .sheet .now) (search needs) (c .enum-told .given .0 .0) (sym (ap told e) ∙ c .before .before .survey .ensures)),
+      bytes (c .before .before .before .before .before),
     )
 
 fill-requires : tie.Need-fill-requires
 fill-requires c κs =
-    let a = c .before .before .before .before .before .before .before .before .before .args in
+    let a = c .before .before .before .before .before .before .before .before .args in
     let f = c .before .before .found .given in
-    counts (a .word .now) (a .sheet .now) (search needs) (search needs) (f .0 .0) (f .0 .1 .0) (f .0 .1 .1 .0) (sym (ap told (f .1)) ∙ c .before .before .before .before .survey .ensures)
+    counts (a .word .now) (a .sheet .now) (search needs) (f .0 .0) (f .0 .1 .0) (f .0 .1 .1 .0) (sym (ap told (f .1)) ∙ c .before .before .before .before .survey .ensures)
 
 same-length : tie.Need-same-length
 same-length c = search needs
 
-returns-4 : tie.Need-returns-4
-returns-4 c =
-    let a = c .before .before .before .before .before .before .before .before .before .before .before .before .args in
+returns-3 : tie.Need-returns-3
+returns-3 c =
+    let a = c .before .before .before .before .before .before .before .before .before .before .before .args in
     let f = c .before .before .before .before .before .found .given in (
-      reading-done (a .word .now) (a .sheet .now) (search needs) (search needs) (f .0 .0) (f .0 .1 .0) (f .0 .1 .1 .0) _
-          (sym (ap told (f .1)) ∙ c .before .before .before .before .before .before .before .survey .ensures) (c .before .before .fill .ensures),
-      bytes (c .before .before .before .before .before .before .before .before .before .before .before),
+      reading-done (a .word .now) (a .sheet .now) (search needs) (f .0 .0) (f .0 .1 .0) (f .0 .1 .1 .0)
+          (sym (ap told (f .1)) ∙ c .before .before .before .before .before .before .before .survey .ensures) _ (c .before .before .fill .ensures),
+      bytes (c .before .before .before .before .before .before .before .before .before .before),
     )
 
 pub read-spec : {M : Type 1} → statement M
@@ -70,11 +65,10 @@ read-spec =
     tie.close
     (tie.spec
     returns
-    returns-2
     survey-requires
     enum-known-found
     enum-told
-    returns-3
+    returns-2
     fill-requires
     same-length
-    returns-4)
+    returns-3)

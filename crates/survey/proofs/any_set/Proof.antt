@@ -1,20 +1,20 @@
--- `to_sheet::survey::any_set` meets its contract: what is asked of the whole is asked of what is left. Assumes nothing.
+-- `survey::any_set` meets its contract: what is asked of the whole is asked of what is left. Assumes nothing.
 use Prim.Native.Nat.{_-_, _≤_}
 use mathlib.Core.Path.{_≡_, refl, sym, ap, _∙_}
 use lib.ListN.{take, drop}
 use Rattle.bits.specs.Lists.{unpack}
 use mathlib.Core.Bool.{not}
 use borrow.Author.Tests.{eq-eqb, ne-eqb}
-use Rattle.to_sheet.proofs.Walks.{set-at, bits-long, bits-done}
+use Rattle.survey.proofs.Walks.{set-at, bits-long, bits-done}
 use borrow.Author.Needs.{needs}
 use lib.Seq.{slice}
 use Rattle.ground.specs.Choice.{any}
 use Rattle.ground.proofs.Choice.{any-found, any-more, any-done}
 use Rattle.description.specs.Tests.{isSet, anySet}
-use Rattle.to_sheet.proofs.survey.any_set.Statement.{statement}
-use Rattle.to_sheet.proofs.survey.any_set.Tie as tie
-use Rattle.to_sheet.proofs.survey.any_set.Reads as reads
-use Rattle.to_sheet.proofs.survey.any_set.Lts as lts
+use Rattle.survey.proofs.any_set.Statement.{statement}
+use Rattle.survey.proofs.any_set.Tie as tie
+use Rattle.survey.proofs.any_set.Reads as reads
+use Rattle.survey.proofs.any_set.Lts as lts
 use Rattle.bits.proofs.field.Reads as field-reads
 
 abbrev Inv-loop : tie.InvT-loop

@@ -1,4 +1,4 @@
--- What each test of a word of 96 bytes finds, as it is read, and what the tests up to it say together.
+-- What each test of a word finds, as it is read, and what the tests up to it say together.
 -- Assumes nothing.
 use Prim.Native.Nat.{ℕ, suc, _+_, _*_, _≤_, _<_}
 use mathlib.Core.Path.{_≡_, refl, sym, ap, ap₂, _∙_}
@@ -9,9 +9,9 @@ use native.Mathlib.Omega.{arith}
 use lib.Dec.{eqb, ltb}
 use lib.ListN.{length, take, drop}
 use lib.Seq.{slice, take-all}
-use borrow.Author.Tests.{lt-ltb}
+use borrow.Author.Tests.{eq-eqb, ne-eqb, lt-ltb}
 use Rattle.ground.specs.Choice.{firstOf}
-use Rattle.ground.proofs.Choice.{faultAt, next-clear, next-found, found-above}
+use Rattle.ground.proofs.Choice.{choose-true, choose-false, faultAt, next-clear, next-found, found-above}
 use Rattle.ground.proofs.Answers.{refusedBy, acceptedWith, verdict-accepted, verdict-refused}
 use Rattle.bits.specs.Lists.{num, unpack}
 use Rattle.bits.specs.Places.{fieldAt}
@@ -33,6 +33,7 @@ use Rattle.sheets.specs.Owned.{ownedAt, tailOwnedAt}
 use Rattle.faults.specs.Faults.{ownLists, listFault}
 use Rattle.walk.specs.Tour.{pOf, sOf, dOf, tourOf}
 use Rattle.walk.specs.declared.Toured.{Toured}
+use Rattle.survey.specs.Survey.{surveyedWord}
 
 module _ (w : List ℕ) (n : length w ≡ 96) where
   long : length (unpack w) ≡ 768
@@ -147,26 +148,40 @@ module _ (w : List ℕ) (n : length w ≡ 96) where
           within = omega (arith, end-is, fits, ap (λ (x : Toured). x .p) e, ap (λ (x : Toured). x .s) e, ap (λ (x : Toured). x .d) e)
 
 -- ---- what the tests up to one of them say together
--- the first k tests of the bits b find nothing: the answer is that of the tests behind them
-pub record Passed (k : ℕ) (b : List ℕ) : Type 0 where
-  pub rest : firstOf (wordFaults b) ≡ firstOf (drop k (wordFaults b))
+-- 1: the word's length alone
+module _ (w : List ℕ) where
+  pub told-length : (length w ≡ 96 → ⊥) → surveyedWord w ≡ refusedBy 1
+  unfolding surveyedWord
+  told-length h = choose-false _ _ (ne-eqb (length w) 96 h)
 
-pub none-yet : (b : List ℕ) → Passed 0 b
-none-yet b = record { rest = refl }
+  pub told-bits : length w ≡ 96 → surveyedWord w ≡ surveyed (unpack w)
+  unfolding surveyedWord
+  told-bits n = choose-true _ _ (eq-eqb (length w) 96 n)
 
-module _ {k : ℕ} {b : List ℕ} (c : Passed k b) where
-  pub told-at : (m : ℕ) → m ≡ firstOf (drop k (wordFaults b)) → (m ≡ 0 → ⊥) → refusedBy m ≡ surveyed b
+-- the word has 96 bytes, and the first k tests of its bits find nothing: the answer is that of the tests behind them
+pub record Passed (k : ℕ) (w : List ℕ) : Type 0 where
+  pub whole : length w ≡ 96
+  pub rest : firstOf (wordFaults (unpack w)) ≡ firstOf (drop k (wordFaults (unpack w)))
+
+pub none-yet : (w : List ℕ) → length w ≡ 96 → Passed 0 w
+none-yet w n = record { whole = n; rest = refl }
+
+module _ {k : ℕ} {w : List ℕ} (c : Passed k w) where
+  abbrev b : List ℕ
+  b = unpack w
+
+  pub told-at : (m : ℕ) → m ≡ firstOf (drop k (wordFaults b)) → (m ≡ 0 → ⊥) → refusedBy m ≡ surveyedWord w
   unfolding surveyed
-  told-at m e h = sym (verdict-refused (wordFaults b) _ (c .rest ∙ sym e) h)
+  told-at m e h = sym (told-bits w (c .whole) ∙ verdict-refused (wordFaults b) _ (c .rest ∙ sym e) h)
 
-  pub told-all : 0 ≡ firstOf (drop k (wordFaults b)) → {p s d : ℕ} → p ≡ pIn b → s ≡ sIn b → d ≡ dIn b → acceptedWith (p ∷ s ∷ d ∷ []) ≡ surveyed b
+  pub told-all : 0 ≡ firstOf (drop k (wordFaults b)) → {p s d : ℕ} → p ≡ pIn b → s ≡ sIn b → d ≡ dIn b → acceptedWith (p ∷ s ∷ d ∷ []) ≡ surveyedWord w
   unfolding surveyed
-  told-all e x y z = (λ i. acceptedWith (x i ∷ y i ∷ z i ∷ [])) ∙ sym (verdict-accepted (wordFaults b) _ (c .rest ∙ sym e))
+  told-all e x y z = (λ i. acceptedWith (x i ∷ y i ∷ z i ∷ [])) ∙ sym (told-bits w (c .whole) ∙ verdict-accepted (wordFaults b) _ (c .rest ∙ sym e))
 
   -- the next test answers, or is passed
-  pub told-next : faultAt k (wordFaults b) .found ≡ true → refusedBy (faultAt k (wordFaults b) .number) ≡ surveyed b
+  pub told-next : faultAt k (wordFaults b) .found ≡ true → refusedBy (faultAt k (wordFaults b) .number) ≡ surveyedWord w
   unfolding wordFaults
   told-next e = told-at _ (sym (next-found k (wordFaults b) e)) (λ z. omega (arith, found-above k (wordFaults b) tt e))
 
-  pub pass-next : faultAt k (wordFaults b) .found ≡ false → Passed (suc k) b
-  pass-next e = record { rest = c .rest ∙ next-clear k (wordFaults b) e }
+  pub pass-next : faultAt k (wordFaults b) .found ≡ false → Passed (suc k) w
+  pass-next e = record { whole = c .whole; rest = c .rest ∙ next-clear k (wordFaults b) e }

@@ -1,4 +1,4 @@
-// All tests of a word, in the reader's order: 2 5 6 7 8 9 10 11.
+// The survey of a signalling word: all its tests, in the reader's order: 1 2 5 6 7 8 9 10 11.
 use ground::SIGNALLING_BLOCK;
 use ground::SIGNALLING_LISTS;
 use ground::SIGNALLING_WORD;
@@ -9,8 +9,8 @@ ghost use lib.ListN.{length};
 ghost use lib.Seq.{slice};
 ghost use Rattle.bits.specs.Lists.{unpack};
 ghost use Rattle.description.specs.Tests.{anySet};
-ghost use Rattle.description.specs.Word.{surveyed};
 ghost use Rattle.sheets.specs.Answers.{told};
+ghost use Rattle.survey.specs.Survey.{surveyedWord};
 
 // The bits of the CRC (table 14).
 const CRC: usize = 12;
@@ -30,11 +30,13 @@ fn any_set(word: &[u8], from: usize, to: usize) -> bool
     false
 }
 
-// The counts of a word of 96 bytes, or the number of the first test that finds something.
+// The counts of a word, or the number of the first test that finds something.
 pub fn survey(word: &[u8]) -> Answer
-    requires { ⌜ length (now word) ≡ 96 ⌝ }
-    ensures { λ r. ⌜ told r ≡ surveyed (unpack (now (word .entry))) ⌝ }
+    ensures { λ r. ⌜ told r ≡ surveyedWord (now (word .entry)) ⌝ }
 {
+    if word.len() != SIGNALLING_WORD {
+        return Answer::Refused(ground::LENGTH_WRONG);
+    }
     if any_set(word, SIGNALLING_BLOCK, 8 * SIGNALLING_WORD) {
         return Answer::Refused(ground::SPARE_SET);
     }
