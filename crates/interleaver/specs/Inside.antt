@@ -13,7 +13,7 @@ use Rattle.wide.specs.declared.Wide.{Wide}
 use Rattle.pairs.specs.Pairs.{Paired}
 use Rattle.rows.specs.Spelt.{rowPair}
 use Rattle.order.specs.Order.{parameter, address, kept, order}
-use Rattle.order.specs.Rows.{rowAddress, column}
+use Rattle.order.specs.Rows.{rowAddress}
 
 -- half the rows of a block of N bits
 unfoldable pub halfOf : ℕ → ℕ

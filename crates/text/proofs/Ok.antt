@@ -10,7 +10,7 @@ use lib.Seq.{getD-append-add}
 use borrow.Author.Tests.{lt-ltb, le-ltb}
 use Rattle.ground.proofs.Choice.{choose-true, choose-false}
 use Rattle.description.specs.Description.{Lists}
-use Rattle.words.specs.Words.{ascii, digits, decimal, filled, line}
+use Rattle.words.specs.Words.{ascii, digits, decimal, filled}
 use Rattle.lines.specs.Lines.{multiplexLine, pipeLines, tailLine, accepted}
 use Rattle.text.specs.Listing.{refused}
 use Rattle.text.specs.Answers.{SaysOk}

@@ -20,7 +20,7 @@ use Rattle.description.specs.Rows.{width, join, cut, joins, cuts}
 use Rattle.description.specs.Fields.{table15, table16, table16b, table18, table19}
 use Rattle.description.specs.Description.{Lists}
 use Rattle.description.specs.Rules.{size}
-use Rattle.description.specs.Layout.{body, padded, sealed, wordOf}
+use Rattle.description.specs.Layout.{body, padded, wordOf}
 use Rattle.description.specs.Sheet.{form1, tailFrom, pipesFrom, streamsFrom, sectionsFrom, sheetEnd}
 use Rattle.description.specs.Form1.{bare, sheetSections, sheetLists}
 use Rattle.description.proofs.Rows.{join-length, joins-length, join-cut, joins-cuts, joins-at, cuts-at, cuts-length}
