@@ -30,7 +30,7 @@ unfolding Row rowFrom
 row-fits [] w at o h = tt
 row-fits (k ∷ t) w at o h = (field-lt w (at + o) k (h .0), row-fits t w at (o + k) (h .1))
 
-pub pipe-bounds : (w : List ℕ) (at : ℕ) → (ownStreams (rowAt table16 w at) ≤ 32) × (ownSections (rowAt table16 w at) ≤ 8)
+pipe-bounds : (w : List ℕ) (at : ℕ) → (ownStreams (rowAt table16 w at) ≤ 32) × (ownSections (rowAt table16 w at) ≤ 8)
 unfolding rowAt
 pipe-bounds w at = let b = own-bounds (rowFrom table16 w at 0) (row-fits table16 w at 0 table16-narrow) in (b .0, b .1)
 

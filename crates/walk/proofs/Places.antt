@@ -1,23 +1,17 @@
 -- What the walk finds, call after call, is what stands in the word: its counts are small, so that nothing it adds up wraps.
 -- Assumes nothing.
-use Prim.Native.Nat.{ℕ, zero, suc, _+_, _*_, _%_, _^_, _≤_, _<_}
-use mathlib.Core.Path.{_≡_, refl, sym, ap, ap₂, _∙_, subst}
+use Prim.Native.Nat.{ℕ, _+_, _*_, _%_, _^_, _≤_, _<_}
+use mathlib.Core.Path.{_≡_, refl, ap, ap₂, _∙_, subst}
 use mathlib.Core.List.{List}
 use native.Mathlib.Nat.{mul-le-mul, mod-eq-of-lt}
-use native.Mathlib.Numerals.{add-one}
 use native.Mathlib.Omega.{arith}
-use Rattle.ground.specs.Table.{tab}
 use Rattle.bits.specs.Places.{fieldAt}
 use Rattle.bits.proofs.Places.{field-lt}
-use Rattle.description.specs.Rows.{total}
-use Rattle.description.specs.Fields.{table16, table16b}
 use Rattle.description.specs.Rules.{size}
-use Rattle.description.specs.Description.{ownStreams, ownSections}
-use Rattle.description.proofs.Bounds.{tail-bound}
-use Rattle.views.specs.Rows.{rowFrom, rowAt, rowsAt}
+use Rattle.views.specs.Rows.{rowFrom, rowAt}
 use Rattle.sheets.specs.Owned.{ownedAt, tailOwnedAt}
 use Rattle.sheets.specs.declared.owned.Share.{Share}
-use Rattle.sheets.proofs.Owning.{pipe-bounds, total-more}
+use Rattle.sheets.proofs.Owning.{owned-small, tail-small}
 use Rattle.walk.specs.Steps.{onward, withTail, foundOf}
 use Rattle.walk.specs.Tour.{pOf, sOf, dOf, tourOf}
 use Rattle.walk.specs.declared.Toured.{Toured}
@@ -25,22 +19,6 @@ use Rattle.walk.specs.declared.Toured.{Toured}
 -- the bits of as many records as are counted
 pub records-small : {n k : ℕ} → n < 2 ^ 16 → k < 2 ^ 32 → n * k ≤ 281470681677825
 records-small {n} {k} x y = let u : n ≤ 65535 = omega (arith, x) in let v : k ≤ 4294967295 = omega (arith, y) in mul-le-mul u v
-
--- ---- what the pipes own is small
-module _ (w : List ℕ) (at : ℕ) where
-  owned-small : (p : ℕ) → (ownedAt w at p .s ≤ 32 * p) × (ownedAt w at p .d ≤ 8 * p)
-  unfolding ownedAt total rowsAt tab
-  owned-small zero = (omega arith, omega arith)
-  owned-small (suc p) =
-      let h = owned-small p in
-      let b = pipe-bounds w (at + 48 * p) in
-      let x : total ownStreams (rowsAt table16 48 (suc p) w at) ≡ total ownStreams (rowsAt table16 48 p w at) + ownStreams (rowAt table16 w (at + 48 * p)) = ap (λ (i : ℕ). total ownStreams (rowsAt table16 48 i w at)) (sym (add-one p)) ∙ total-more ownStreams table16 48 w at p in
-      let y : total ownSections (rowsAt table16 48 (suc p) w at) ≡ total ownSections (rowsAt table16 48 p w at) + ownSections (rowAt table16 w (at + 48 * p)) = ap (λ (i : ℕ). total ownSections (rowsAt table16 48 i w at)) (sym (add-one p)) ∙ total-more ownSections table16 48 w at p in
-      (omega (arith, x, h .0, b .0), omega (arith, y, h .1, b .1))
-
-  tail-small : tailOwnedAt w at ≤ 1
-  unfolding tailOwnedAt
-  tail-small = tail-bound (rowAt table16b w at)
 
 onward-small : (a n k : ℕ) → a + n * k < 4294967296 → onward a n k ≡ a + n * k
 unfolding onward
@@ -116,17 +94,17 @@ module _ (w : List ℕ) where
 
   pub streams-few : sOf w ≤ 481
   unfolding sOf
-  streams-few = omega (arith, owned-small w 56 (pOf w) .0, tail-small w (56 + 48 * pOf w), pipes-few)
+  streams-few = omega (arith, owned-small w 56 (pOf w) _ refl .0, tail-small w (56 + 48 * pOf w) refl, pipes-few)
 
   pub sections-few : dOf w ≤ 120
   unfolding dOf
-  sections-few = omega (arith, owned-small w 56 (pOf w) .1, pipes-few)
+  sections-few = omega (arith, owned-small w 56 (pOf w) _ refl .1, pipes-few)
 
   streams-are : all w .s ≡ sOf w
   unfolding withTail sOf
   streams-are =
       let s : own w .s ≡ ownedAt w 56 (pOf w) .s = ap (λ (o : Share). o .s) own-is in
-      omega (arith, s, tail-is, owned-small w 56 (pOf w) .0, tail-small w (56 + 48 * pOf w), pipes-few)
+      omega (arith, s, tail-is, owned-small w 56 (pOf w) _ refl .0, tail-small w (56 + 48 * pOf w) refl, pipes-few)
 
   sections-are : all w .d ≡ dOf w
   unfolding withTail dOf
