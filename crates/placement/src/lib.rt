@@ -1,8 +1,10 @@
 // Placement: received values go to the places of the encoder's output from which they were sent (clauses 4.4.2 and 4.4.3).
+use puncturing::DATA_ENTRIES;
+use puncturing::TAIL_PLACES;
 ghost use mathlib.Core.Path.{_≡_};
+ghost use mathlib.Core.List.{[], _∷_};
 ghost use Prim.Native.Nat.{_+_, _*_, _<_, _≤_};
 ghost use lib.IntN.{_+ℤ_};
-ghost use mathlib.Core.List.{[], _∷_};
 ghost use lib.ListN.{length, take};
 ghost use lib.Signed.{mag};
 ghost use Rattle.ground.specs.Outcome.{Is};
@@ -69,12 +71,15 @@ fn place_data(pattern: usize, n: usize, values: &[i8], lane: &mut [i16]) -> usiz
     while i < n {
         at = place_group(values, at, entries[j], lane, 5 * i);
         i += 1;
-        j = if j == 11 { 0 } else { j + 1 };
+        j += 1;
+        if j == DATA_ENTRIES {
+            j = 0;
+        }
     }
     at
 }
 
-// The thirty places of the tail, the data's being placed.
+// The places of the tail, the data's being placed.
 fn place_tail(pattern: usize, n: usize, values: &[i8], at: usize, lane: &mut [i16])
     requires { ⌜ Placeable pattern n (now values) (now lane) × Placed pattern n (now values) (now lane) at (5 * n) ⌝ }
     ensures { λ _. ⌜ Placed pattern n (now (values .entry)) (now (lane .exit)) (length (now (values .entry))) (places n) ⌝ }
@@ -82,8 +87,8 @@ fn place_tail(pattern: usize, n: usize, values: &[i8], at: usize, lane: &mut [i1
     let entries = puncturing::entries(pattern);
     let mut v = at;
     let mut k = 0;
-    while k < 30 {
-        let c = puncturing::digit(entries[12 + k / 5], k % 5);
+    while k < TAIL_PLACES {
+        let c = puncturing::digit(entries[DATA_ENTRIES + k / 5], k % 5);
         lane[5 * n + k] = held(values, v, c);
         v += c as usize;
         k += 1;

@@ -69,6 +69,11 @@ const TAIL: [u64; 28] = [
     0o100_100_100_100_100_100, // 27
 ];
 
+// Of the eighteen entries the first twelve are data groups. The six behind them are the tail's, with five places each.
+pub const DATA_ENTRIES: usize = 12;
+
+pub const TAIL_PLACES: usize = 30;
+
 // A group of five bits as five octal digits.
 fn spaced(x: u16) -> u16
     ensures { λ r. ⌜ r ≡ spaced x ⌝ }

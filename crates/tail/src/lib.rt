@@ -62,11 +62,11 @@ pub fn run_of(rows: &[u16; 18], both: usize) -> Run
     let symbols = wide(table[both / 8 % 8]) * 32768 + wide(table[8 + both % 8]);
     let mut r = Run { value: 0, bits: 0 };
     let mut k = 0;
-    while k < 30 {
+    while k < puncturing::TAIL_PLACES {
         r = more(
             r,
             (symbols >> (29 - k)) % 2,
-            puncturing::digit(rows[12 + k / 5], k % 5),
+            puncturing::digit(rows[puncturing::DATA_ENTRIES + k / 5], k % 5),
         );
         k += 1;
     }
