@@ -10,8 +10,8 @@ use lib.Dec.{eqb, ltb}
 use lib.ListN.{length, take, drop}
 use lib.Seq.{slice, take-all}
 use borrow.Author.Tests.{eq-eqb, ne-eqb, lt-ltb}
-use Rattle.ground.specs.Choice.{firstOf}
-use Rattle.ground.proofs.Choice.{choose-true, choose-false, faultAt, next-clear, next-found, found-above}
+use Rattle.ground.specs.Choice.{choose, Fault, refuse, firstOf}
+use Rattle.ground.proofs.Choice.{first-clear, first-found, faultAt, next-clear, next-found, found-above}
 use Rattle.ground.proofs.Answers.{refusedBy, acceptedWith, verdict-accepted, verdict-refused}
 use Rattle.bits.specs.Lists.{num, unpack}
 use Rattle.bits.specs.Places.{fieldAt}
@@ -152,11 +152,14 @@ module _ (w : List ℕ) (n : length w ≡ 96) where
 module _ (w : List ℕ) where
   pub told-length : (length w ≡ 96 → ⊥) → surveyedWord w ≡ refusedBy 1
   unfolding surveyedWord
-  told-length h = choose-false _ _ (ne-eqb (length w) 96 h)
+  told-length h =
+      let f : Fault = refuse 1 (not (eqb (length w) 96)) in
+      verdict-refused (f ∷ wordFaults (unpack w)) _ (first-found f (wordFaults (unpack w)) (ap not (ne-eqb (length w) 96 h))) (λ z. omega arith)
 
   pub told-bits : length w ≡ 96 → surveyedWord w ≡ surveyed (unpack w)
-  unfolding surveyedWord
-  told-bits n = choose-true _ _ (eq-eqb (length w) 96 n)
+  unfolding surveyedWord surveyed
+  told-bits n =
+      ap (λ (m : ℕ). choose (eqb m 0) (acceptedWith (pIn (unpack w) ∷ sIn (unpack w) ∷ dIn (unpack w) ∷ [])) (refusedBy m)) (first-clear _ (wordFaults (unpack w)) (ap not (eq-eqb (length w) 96 n)))
 
 -- the word has 96 bytes, and the first k tests of its bits find nothing: the answer is that of the tests behind them
 pub record Passed (k : ℕ) (w : List ℕ) : Type 0 where
