@@ -1,5 +1,4 @@
 // Packed bits (annex A): the first bit is the top bit of the first byte, and a number stands most significant bit first.
-
 ghost use mathlib.Core.Path.{_≡_};
 ghost use Prim.Native.Nat.{_+_, _-_, _/_, _%_, _^_, _<_};
 ghost use lib.ListN.{getD};

@@ -1,5 +1,4 @@
 // The puncturing patterns of the turbo code.
-
 use ground::LENGTH_WRONG;
 use ground::PATTERN_ABOVE_27;
 use ground::PATTERN_NOT_0;

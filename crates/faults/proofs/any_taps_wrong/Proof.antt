@@ -1,3 +1,4 @@
+-- `faults::any_taps_wrong` meets its contract. Assumes nothing.
 use mathlib.Core.Path.{sym, _∙_}
 use Prim.Native.Nat.{_-_, _<_}
 use native.Mathlib.Omega.{arith}
@@ -17,41 +18,33 @@ Inv-loop w v p apart from₀ i₀ from i = Tapped w v p i from
 abbrev μ-loop : tie.MeasureT-loop
 μ-loop w v p apart from₀ i₀ from i = p - i
 
--- src/lib.rt:78:17
 cast-apart : tie.Need-cast-apart Inv-loop μ-loop
 cast-apart c = search needs
 
--- src/lib.rt:79:20
 cast-from : tie.Need-cast-from Inv-loop μ-loop
 cast-from c = search needs
 
--- src/lib.rt:81:5
 loop-holds : tie.Need-loop-holds Inv-loop μ-loop
 loop-holds c = let a = c .before .before .before .args in tapped-none (a .w .now) (a .v) (a .p)
 
--- src/lib.rt:82:13
 pipe-at-requires : tie.Need-pipe-at-requires Inv-loop μ-loop
 pipe-at-requires c κs = search needs
 
--- src/lib.rt:83:12
 taps-wrong-requires : tie.Need-taps-wrong-requires Inv-loop μ-loop
 taps-wrong-requires c κs =
     let a = c .before .before .before .before .before .before .args in
     let l = c .before .before .loop in
     (pipe-small (a .w .now) (a .v .pipes) (l .i) _ (c .pipe-at .ensures) .1, search needs, omega (arith, l .inv .far))
 
--- src/lib.rt:84:13
 returns : tie.Need-returns Inv-loop μ-loop
 returns c =
     let a = c .before .before .before .before .before .before .before .before .args in
     let l = c .before .before .before .before .loop in
     sym (tapped-found (a .w .now) (a .v) (a .p) (l .inv) (search needs) _ (c .before .before .pipe-at .ensures) (sym (c .before .taps-wrong .ensures) ∙ c .if1 .taken))
 
--- src/lib.rt:86:25
 cast-from-2 : tie.Need-cast-from-2 Inv-loop μ-loop
 cast-from-2 c = search needs
 
--- src/lib.rt:86:17
 -- a distance is a number of 32 bits
 narrow : (c : tie.In-loop Inv-loop μ-loop) → c .before .before .before .before .before .args .v .apart < 4294967296
 narrow c = search needs
@@ -77,15 +70,12 @@ add-from c =
     let far = l .inv .far in
     search (needs, h, k, far)
 
--- src/lib.rt:87:9
 add-i : tie.Need-add-i Inv-loop μ-loop
 add-i c = search needs
 
--- src/lib.rt:81:5
 loop-less : tie.Need-loop-less Inv-loop μ-loop
 loop-less c = search needs
 
--- src/lib.rt:81:5
 loop-again : tie.Need-loop-again Inv-loop μ-loop
 loop-again c =
     let a = c .before .before .before .before .before .before .before .before .before .args in
@@ -94,7 +84,6 @@ loop-again c =
     tapped-more (a .w .now) (a .v) (a .p) (l .inv) (search needs) _ (q .ensures) (search needs) (pipe-small (a .w .now) (a .v .pipes) (l .i) _ (q .ensures) .1)
     (sym (c .before .before .taps-wrong .ensures) ∙ c .before .if1 .left)
 
--- src/lib.rt:75:1
 returns-2 : tie.Need-returns-2 Inv-loop μ-loop
 returns-2 c =
     let a = c .before .before .before .before .before .args in

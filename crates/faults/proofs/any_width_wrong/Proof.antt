@@ -1,3 +1,4 @@
+-- `faults::any_width_wrong` meets its contract. Assumes nothing.
 use mathlib.Core.Path.{_≡_, refl, sym, _∙_}
 use Prim.Native.Nat.{_-_, _≤_}
 use native.Mathlib.Omega.{arith}
@@ -21,42 +22,34 @@ Inv-loop w at p i₀ i = (i ≤ p) × (widthFault (rowsAt table16 48 p w at) ≡
 abbrev μ-loop : tie.MeasureT-loop
 μ-loop w at p i₀ i = p - i
 
--- src/lib.rt:39:5
 loop-holds : tie.Need-loop-holds Inv-loop μ-loop
 unfolding widthFault
 loop-holds c = (omega arith, refl)
 
--- src/lib.rt:40:24
 pipe-at-requires : tie.Need-pipe-at-requires Inv-loop μ-loop
 pipe-at-requires c κs = search needs
 
--- src/lib.rt:40:12
 width-wrong-requires : tie.Need-width-wrong-requires Inv-loop μ-loop
 width-wrong-requires c κs = search needs
 
--- src/lib.rt:41:13
 returns : tie.Need-returns Inv-loop μ-loop
 returns c =
     let a = c .before .before .before .before .before .before .args in
     let l = c .before .before .before .before .loop in
     sym (widths-found (a .w .now) (a .at) (a .p) (l .i) _ (search needs) (l .inv .1) (c .before .before .pipe-at .ensures) (sym (c .before .width-wrong .ensures) ∙ c .if1 .taken))
 
--- src/lib.rt:43:9
 add-i : tie.Need-add-i Inv-loop μ-loop
 add-i c = search needs
 
--- src/lib.rt:39:5
 loop-less : tie.Need-loop-less Inv-loop μ-loop
 loop-less c = search needs
 
--- src/lib.rt:39:5
 loop-again : tie.Need-loop-again Inv-loop μ-loop
 loop-again c =
     let a = c .before .before .before .before .before .before .args in
     let l = c .before .before .before .before .loop in
     (search needs, widths-more (a .w .now) (a .at) (a .p) (l .i) _ (search needs) (l .inv .1) (c .before .before .pipe-at .ensures) (sym (c .before .width-wrong .ensures) ∙ c .if1 .left))
 
--- src/lib.rt:35:1
 returns-2 : tie.Need-returns-2 Inv-loop μ-loop
 returns-2 c =
     let a = c .before .before .before .args in

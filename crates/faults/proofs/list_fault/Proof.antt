@@ -1,3 +1,4 @@
+-- `faults::list_fault` meets its contract. Assumes nothing.
 use mathlib.Core.Path.{_≡_, sym, _∙_}
 use Rattle.ground.proofs.Choice.{first-at, clear-all}
 use mathlib.Core.List.{List}
@@ -13,15 +14,12 @@ use Rattle.faults.proofs.any_taps_wrong.Reads as any-taps-wrong-reads
 use Rattle.faults.proofs.any_width_wrong.Reads as any-width-wrong-reads
 use Rattle.faults.proofs.id_twice.Reads as id-twice-reads
 
--- src/lib.rt:114:9
 any-width-wrong-requires : tie.Need-any-width-wrong-requires
 any-width-wrong-requires c κs = search needs
 
--- src/lib.rt:115:9
 any-taps-wrong-requires : tie.Need-any-taps-wrong-requires
 any-taps-wrong-requires c κs = search needs
 
--- src/lib.rt:116:9
 id-twice-requires : tie.Need-id-twice-requires
 id-twice-requires c κs = search needs
 
@@ -36,19 +34,15 @@ found c =
     let a = c .before .before .before .before .args in
     judged-is (a .w .now) (a .v) (a .p) (a .s) (c .before .before .any-width-wrong .ensures) (c .before .any-taps-wrong .ensures) (c .id-twice .ensures)
 
--- src/lib.rt:118:9
 returns : tie.Need-returns
 returns c = sym (first-at 0 (three (c .before)) tt (c .if1 .taken)) ∙ found (c .before)
 
--- src/lib.rt:121:9
 returns-2 : tie.Need-returns-2
 returns-2 c = sym (first-at 1 (three (c .before .before)) (c .before .if1 .left, tt) (c .if2 .taken)) ∙ found (c .before .before)
 
--- src/lib.rt:124:9
 returns-3 : tie.Need-returns-3
 returns-3 c = sym (first-at 2 (three (c .before .before .before)) (c .before .before .if1 .left, (c .before .if2 .left, tt)) (c .if3 .taken)) ∙ found (c .before .before .before)
 
--- src/lib.rt:111:1
 returns-4 : tie.Need-returns-4
 returns-4 c = sym (clear-all (three (c .before .before .before)) (c .before .before .if1 .left, (c .before .if2 .left, (c .if3 .left, tt)))) ∙ found (c .before .before .before)
 

@@ -1,3 +1,4 @@
+-- `faults::taps_at` meets its contract. Assumes nothing.
 use Prim.Native.Nat.{ℕ, _+_, _-_, _*_, _≤_}
 use mathlib.Core.Path.{_≡_, ap, _∙_}
 use native.Mathlib.Omega.{arith}
@@ -21,44 +22,34 @@ Inv-loop w at apart n taps₀ k₀ taps k = (k ≤ n) × (taps ≡ total tapsOf 
 abbrev μ-loop : tie.MeasureT-loop
 μ-loop w at apart n taps₀ k₀ taps k = n - k
 
--- src/lib.rt:55:5
 loop-holds : tie.Need-loop-holds Inv-loop μ-loop
 unfolding total
 loop-holds c = search needs
 
--- src/lib.rt:57:38
 mul-field : tie.Need-mul-field Inv-loop μ-loop
 mul-field c = let o = c .before .before .before in let h = taps-far (o .args .apart) (c .before .loop .k) 8 (o .pre .1) (omega arith) (omega arith) in search (needs, h)
 
--- src/lib.rt:57:33
 add-field : tie.Need-add-field Inv-loop μ-loop
 add-field c = let o = c .before .before .before in let h = taps-far (o .args .apart) (c .before .loop .k) 8 (o .pre .1) (omega arith) (omega arith) in search (needs, h)
 
--- src/lib.rt:57:18
 field-requires : tie.Need-field-requires Inv-loop μ-loop
 field-requires c κs = search needs
 
--- src/lib.rt:57:18
 add-taps : tie.Need-add-taps Inv-loop μ-loop
 add-taps c = let o = c .before .before .before .before in omega (arith, c .field .ensures, field-lt (o .args .w .now) (o .args .at + o .args .apart * c .before .before .loop .k) 4 (omega arith))
 
--- src/lib.rt:57:17
 mul-taps : tie.Need-mul-taps Inv-loop μ-loop
 mul-taps c = let o = c .before .before .before .before in omega (arith, c .field .ensures, field-lt (o .args .w .now) (o .args .at + o .args .apart * c .before .before .loop .k) 4 (omega arith))
 
--- src/lib.rt:57:9
 add-taps-2 : tie.Need-add-taps-2 Inv-loop μ-loop
 add-taps-2 c = let o = c .before .before .before .before in omega (arith, c .field .ensures, field-lt (o .args .w .now) (o .args .at + o .args .apart * c .before .before .loop .k) 4 (omega arith))
 
--- src/lib.rt:58:9
 add-k : tie.Need-add-k Inv-loop μ-loop
 add-k c = search needs
 
--- src/lib.rt:55:5
 loop-less : tie.Need-loop-less Inv-loop μ-loop
 loop-less c = search needs
 
--- src/lib.rt:55:5
 loop-again : tie.Need-loop-again Inv-loop μ-loop
 loop-again c =
     let o = c .before .before .before .before in
@@ -70,7 +61,6 @@ loop-again c =
       omega (arith, c .field .ensures),
     )
 
--- src/lib.rt:49:1
 returns : tie.Need-returns Inv-loop μ-loop
 returns c =
     let o = c .before .before .before in

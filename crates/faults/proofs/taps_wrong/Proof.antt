@@ -1,3 +1,4 @@
+-- `faults::taps_wrong` meets its contract. Assumes nothing.
 use mathlib.Core.Path.{sym, ap, _∙_}
 use mathlib.Core.Bool.{Bool, not}
 use Prim.Native.Nat.{ℕ}
@@ -15,21 +16,17 @@ use Rattle.faults.proofs.taps_wrong.Reads as reads
 use Rattle.faults.proofs.taps_wrong.Lts as lts
 use Rattle.faults.proofs.taps_at.Reads as taps-at-reads
 
--- src/lib.rt:69:9
 returns : tie.Need-returns
 returns c =
     let a = c .before .before .before .args in
     sym (both-first (not (eqb (total tapsOf (fieldsAt (a .w .now) (a .at) (a .apart) 4 (a .q .d))) 32)) (ap not (eq-eqb (a .q .width) 0 (c .if1 .taken))))
 
--- src/lib.rt:71:27
 cast-taps-at : tie.Need-cast-taps-at
 cast-taps-at c = search needs
 
--- src/lib.rt:71:5
 taps-at-requires : tie.Need-taps-at-requires
 taps-at-requires c κs = search needs
 
--- src/lib.rt:64:1
 returns-2 : tie.Need-returns-2
 returns-2 c =
     let a = c .before .before .before .before .before .args in

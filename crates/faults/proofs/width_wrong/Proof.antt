@@ -1,3 +1,4 @@
+-- `faults::width_wrong` meets its contract. Assumes nothing.
 use mathlib.Core.Path.{sym, ap, _∙_}
 use mathlib.Core.Bool.{Bool, not}
 use Prim.Native.Nat.{ℕ, _%_}
@@ -15,30 +16,24 @@ use Rattle.faults.proofs.width_wrong.Reads as reads
 use Rattle.faults.proofs.width_wrong.Lts as lts
 use Rattle.patterns.proofs.units.Reads as units-reads
 
--- src/lib.rt:28:37
 cast-units : tie.Need-cast-units
 cast-units c = search needs
 
--- src/lib.rt:28:21
 units-requires : tie.Need-units-requires
 units-requires c κs = search needs
 
--- src/lib.rt:28:21
 cast-units-2 : tie.Need-cast-units-2
 cast-units-2 c = search needs
 
--- src/lib.rt:29:16
 rem-result : tie.Need-rem-result
 rem-result c = let o = c .before .before .before .before .before in omega (arith, c .before .units .ensures, units-some (o .args .q .pattern) (c .before .before .before .if1 .taken))
 
--- src/lib.rt:29:9
 returns : tie.Need-returns
 returns c =
     let q = c .before .before .before .before .before .args .q in
     ap (λ (x : ℕ). not (eqb (q .width % x) 0)) (c .before .units .ensures)
     ∙ sym (ap (λ (t : Bool). both t (not (eqb (q .width % unitsOf (q .pattern)) 0))) (lt-ltb (q .pattern) 28 (c .before .before .before .if1 .taken)))
 
--- src/lib.rt:24:1
 returns-2 : tie.Need-returns-2
 returns-2 c =
     let q = c .before .before .args .q in

@@ -1,3 +1,4 @@
+-- `forms::check` meets its contract. Assumes nothing.
 use mathlib.Core.Path.{sym, _∙_}
 use Rattle.forms.proofs.Checked.{header-faulty, faulty, sound}
 use native.Mathlib.Omega.{arith}
@@ -16,39 +17,30 @@ use Rattle.forms.proofs.judge.record_fault.Reads as record-fault-reads
 bytes : (c : tie.After-shared-slice-known) → Below 256 (c .before .args .sheet .now)
 bytes c = below-of 256 (c .before .args .sheet .now) (λ i. omega (arith, c .shared-slice-known .given i))
 
--- src/lib.rt:15:8
 header-wrong-requires : tie.Need-header-wrong-requires
 header-wrong-requires c κs = search needs
 
--- src/lib.rt:16:9
 returns : tie.Need-returns
 returns c = (header-faulty (c .before .before .before .args .sheet .now) (sym (c .before .header-wrong .ensures) ∙ c .if1 .taken), bytes (c .before .before))
 
--- src/lib.rt:18:9
 byte-of-requires : tie.Need-byte-of-requires
 byte-of-requires c κs = search needs
 
--- src/lib.rt:19:13
 byte-of-requires-2 : tie.Need-byte-of-requires-2
 byte-of-requires-2 c κs = search needs
 
--- src/lib.rt:19:13
 cast-s : tie.Need-cast-s
 cast-s c = search needs
 
--- src/lib.rt:20:13
 byte-of-requires-3 : tie.Need-byte-of-requires-3
 byte-of-requires-3 c κs = search needs
 
--- src/lib.rt:20:13
 cast-d : tie.Need-cast-d
 cast-d c = search needs
 
--- src/lib.rt:21:9
 record-fault-requires : tie.Need-record-fault-requires
 record-fault-requires c κs = search needs
 
--- src/lib.rt:23:9
 returns-2 : tie.Need-returns-2
 returns-2 c =
     let b = c .before .before .before .before in
@@ -58,7 +50,6 @@ returns-2 c =
       bytes (h .before),
     )
 
--- src/lib.rt:12:1
 returns-3 : tie.Need-returns-3
 returns-3 c =
     let b = c .before .before .before .before in

@@ -8,15 +8,12 @@ use Rattle.headers.proofs.byte_of.Tie as tie
 use Rattle.headers.proofs.byte_of.Reads as reads
 use Rattle.headers.proofs.byte_of.Lts as lts
 
--- src/lib.rt:46:16
 shared-slice-read-result : tie.Need-shared-slice-read-result
 shared-slice-read-result c = search needs
 
--- src/lib.rt:46:9
 returns : tie.Need-returns
 returns c = search needs
 
--- src/lib.rt:42:1
 returns-2 : tie.Need-returns-2
 returns-2 c = sym (List·getD-eq-default (c .before .args .sheet .now) 0 (omega (arith, c .if1 .left)))
 

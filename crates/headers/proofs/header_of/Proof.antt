@@ -9,67 +9,51 @@ use Rattle.headers.proofs.header_of.Tie as tie
 use Rattle.headers.proofs.header_of.Reads as reads
 use Rattle.headers.proofs.header_of.Lts as lts
 
--- src/lib.rt:21:17
 add-pipes : tie.Need-add-pipes
 add-pipes c = search needs
 
--- src/lib.rt:22:27
 mul-streams : tie.Need-mul-streams
 mul-streams c = search needs
 
--- src/lib.rt:22:19
 add-streams : tie.Need-add-streams
 add-streams c = search needs
 
--- src/lib.rt:23:30
 mul-sections : tie.Need-mul-sections
 mul-sections c = search needs
 
--- src/lib.rt:23:20
 add-sections : tie.Need-add-sections
 add-sections c = search needs
 
--- src/lib.rt:24:26
 mul-end : tie.Need-mul-end
 mul-end c = search needs
 
--- src/lib.rt:24:15
 add-end : tie.Need-add-end
 add-end c = search needs
 
--- src/lib.rt:30:9
 cast-t11 : tie.Need-cast-t11
 cast-t11 c = search needs
 
--- src/lib.rt:31:9
 cast-t13 : tie.Need-cast-t13
 cast-t13 c = search needs
 
--- src/lib.rt:32:9
 cast-t16 : tie.Need-cast-t16
 cast-t16 c = search needs
 
--- src/lib.rt:33:9
 cast-t18 : tie.Need-cast-t18
 cast-t18 c = search needs
 
--- src/lib.rt:34:9
 cast-t21 : tie.Need-cast-t21
 cast-t21 c = search needs
 
--- src/lib.rt:35:9
 cast-t23 : tie.Need-cast-t23
 cast-t23 c = search needs
 
--- src/lib.rt:36:9
 cast-t26 : tie.Need-cast-t26
 cast-t26 c = search needs
 
--- src/lib.rt:37:9
 cast-t28 : tie.Need-cast-t28
 cast-t28 c = search needs
 
--- src/lib.rt:18:1
 returns : tie.Need-returns
 unfolding header
 returns c = byte refl (byte refl (byte refl (byte refl (byte (search needs) (byte (search needs)

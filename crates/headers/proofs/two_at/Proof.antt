@@ -8,35 +8,27 @@ use Rattle.headers.proofs.two_at.Reads as reads
 use Rattle.headers.proofs.two_at.Lts as lts
 use Rattle.headers.proofs.byte_of.Reads as byte-of-reads
 
--- src/lib.rt:56:5
 byte-of-requires : tie.Need-byte-of-requires
 byte-of-requires c κs = search needs
 
--- src/lib.rt:56:5
 cast-result : tie.Need-cast-result
 cast-result c = search needs
 
--- src/lib.rt:56:5
 mul-result : tie.Need-mul-result
 mul-result c = search needs
 
--- src/lib.rt:56:55
 add-byte-of : tie.Need-add-byte-of
 add-byte-of c = search needs
 
--- src/lib.rt:56:40
 byte-of-requires-2 : tie.Need-byte-of-requires-2
 byte-of-requires-2 c κs = search needs
 
--- src/lib.rt:56:40
 cast-result-2 : tie.Need-cast-result-2
 cast-result-2 c = search needs
 
--- src/lib.rt:56:5
 add-result : tie.Need-add-result
 add-result c = search needs
 
--- src/lib.rt:52:1
 returns : tie.Need-returns
 returns c = ap₂ (λ (x y : ℕ). x * 256 + y) (c .before .byte-of .ensures) (c .byte-of2 .ensures)
 

@@ -1,3 +1,4 @@
+-- `records::multiplex_at` meets its contract. Assumes nothing.
 use Prim.Native.Nat.{_+_}
 use native.Mathlib.Omega.{arith}
 use Rattle.records.proofs.Fields.{read-lt, multiplex-read}
@@ -8,39 +9,30 @@ use Rattle.records.proofs.multiplex_at.Reads as reads
 use Rattle.records.proofs.multiplex_at.Lts as lts
 use Rattle.bits.proofs.field.Reads as field-reads
 
--- src/lib.rt:30:18
 field-requires : tie.Need-field-requires
 field-requires c κs = search needs
 
--- src/lib.rt:31:34
 add-field : tie.Need-add-field
 add-field c = search needs
 
--- src/lib.rt:31:19
 field-requires-2 : tie.Need-field-requires-2
 field-requires-2 c κs = search needs
 
--- src/lib.rt:32:31
 add-field-2 : tie.Need-add-field-2
 add-field-2 c = search needs
 
--- src/lib.rt:32:16
 field-requires-3 : tie.Need-field-requires-3
 field-requires-3 c κs = search needs
 
--- src/lib.rt:33:31
 add-field-3 : tie.Need-add-field-3
 add-field-3 c = search needs
 
--- src/lib.rt:33:16
 field-requires-4 : tie.Need-field-requires-4
 field-requires-4 c κs = search needs
 
--- src/lib.rt:33:16
 cast-t11 : tie.Need-cast-t11
 cast-t11 c = let a = c .before .before .before .before .before .args in let h = read-lt (a .w .now) (a .at + 52) 4 (omega arith) (c .field4 .ensures) in search (needs, h)
 
--- src/lib.rt:25:1
 returns : tie.Need-returns
 returns c =
     let a = c .before .before .before .before .before .args in

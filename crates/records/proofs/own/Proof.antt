@@ -1,3 +1,4 @@
+-- `records::own` meets its contract. Assumes nothing.
 use mathlib.Core.Path.{sym}
 use borrow.Author.Tests.{eq-eqb, ne-eqb}
 use Rattle.ground.proofs.Choice.{choose-true, choose-false}
@@ -7,19 +8,15 @@ use Rattle.records.proofs.own.Tie as tie
 use Rattle.records.proofs.own.Reads as reads
 use Rattle.records.proofs.own.Lts as lts
 
--- src/lib.rt:43:9
 returns : tie.Need-returns
 returns c = sym (choose-true _ _ (eq-eqb (c .before .args .width) 0 (c .if1 .taken)))
 
--- src/lib.rt:45:5
 cast-result : tie.Need-cast-result
 cast-result c = search needs
 
--- src/lib.rt:45:5
 add-result : tie.Need-add-result
 add-result c = search needs
 
--- src/lib.rt:38:1
 returns-2 : tie.Need-returns-2
 returns-2 c = sym (choose-false _ _ (ne-eqb (c .before .args .width) 0 (c .if1 .left)))
 

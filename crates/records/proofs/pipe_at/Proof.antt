@@ -1,3 +1,4 @@
+-- `records::pipe_at` meets its contract. Assumes nothing.
 use Prim.Native.Nat.{_+_, _*_}
 use native.Mathlib.Omega.{arith}
 use Rattle.records.proofs.Fields.{read-lt, pipe-read}
@@ -9,51 +10,39 @@ use Rattle.records.proofs.pipe_at.Lts as lts
 use Rattle.bits.proofs.field.Reads as field-reads
 use Rattle.records.proofs.own.Reads as own-reads
 
--- src/lib.rt:52:28
 mul-at : tie.Need-mul-at
 mul-at c = search needs
 
--- src/lib.rt:52:14
 add-at : tie.Need-add-at
 add-at c = search needs
 
--- src/lib.rt:53:32
 add-field : tie.Need-add-field
 add-field c = search needs
 
--- src/lib.rt:53:9
 field-requires : tie.Need-field-requires
 field-requires c κs = search needs
 
--- src/lib.rt:55:18
 field-requires-2 : tie.Need-field-requires-2
 field-requires-2 c κs = search needs
 
--- src/lib.rt:57:38
 add-field-2 : tie.Need-add-field-2
 add-field-2 c = search needs
 
--- src/lib.rt:57:23
 field-requires-3 : tie.Need-field-requires-3
 field-requires-3 c κs = search needs
 
--- src/lib.rt:57:12
 own-requires : tie.Need-own-requires
 own-requires c κs = let a = c .before .before .before .before .args in read-lt (a .w .now) (a .at + 48 * a .k + 16) 5 (omega arith) (c .field3 .ensures)
 
--- src/lib.rt:58:38
 add-field-3 : tie.Need-add-field-3
 add-field-3 c = search needs
 
--- src/lib.rt:58:23
 field-requires-4 : tie.Need-field-requires-4
 field-requires-4 c κs = search needs
 
--- src/lib.rt:58:12
 own-requires-2 : tie.Need-own-requires-2
 own-requires-2 c κs = let a = c .before .before .before .before .before .before .args in let h = read-lt (a .w .now) (a .at + 48 * a .k + 21) 3 (omega arith) (c .field4 .ensures) in omega arith
 
--- src/lib.rt:49:1
 returns : tie.Need-returns
 returns c =
     let a = c .before .before .before .before .before .before .before .args in

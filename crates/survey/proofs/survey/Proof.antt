@@ -1,3 +1,4 @@
+-- `survey::survey` meets its contract. Assumes nothing.
 use Prim.Native.Nat.{ℕ, _≤_}
 use mathlib.Core.Path.{_≡_, sym, ap, _∙_}
 use mathlib.Core.Bool.{not}
@@ -119,80 +120,62 @@ judged c =
     judge-is (word o) (long o) (t .tour .result) (t .tour .ensures) (fits (c .before .before .before .before)) _ (c .before .of-word .ensures) (c .list-fault .ensures)
 
 -- ---- the needs
--- src/lib.rt:38:9
 returns : tie.Need-returns
 returns c = sym (told-length (c .before .before .args .word .now) (c .if1 .taken))
 
--- src/lib.rt:40:40
 mul-any-set : tie.Need-mul-any-set
 mul-any-set c = search needs
 
--- src/lib.rt:40:8
 any-set-requires : tie.Need-any-set-requires
 any-set-requires c κs = search needs
 
--- src/lib.rt:41:9
 returns-2 : tie.Need-returns-2
 unfolding wordFaults
 returns-2 c = told-next (passed-1 (from-2 (c .before))) (spare (c .before) ∙ c .if2 .taken)
 
--- src/lib.rt:43:16
 field-requires : tie.Need-field-requires
 field-requires c κs = search needs
 
--- src/lib.rt:44:15
 crc12-requires : tie.Need-crc12-requires
 crc12-requires c κs = search needs
 
--- src/lib.rt:44:15
 cast-crc : tie.Need-cast-crc
 cast-crc c = search needs
 
--- src/lib.rt:46:9
 returns-3 : tie.Need-returns-3
 unfolding wordFaults
 returns-3 c = told-next (passed-2 (c .before .before .before)) (crc (c .before) ∙ ap not (ne-eqb _ _ (c .if3 .taken)))
 
--- src/lib.rt:48:13
 tour-requires : tie.Need-tour-requires
 tour-requires c κs = search needs
 
--- src/lib.rt:50:9
 returns-4 : tie.Need-returns-4
 unfolding wordFaults
 returns-4 c = told-next (passed-5 (c .before .before .before)) (version (c .before .before) ∙ ap not (ne-eqb _ _ (c .if4 .taken)))
 
--- src/lib.rt:52:15
 cast-end : tie.Need-cast-end
 cast-end c = search needs
 
--- src/lib.rt:54:9
 returns-5 : tie.Need-returns-5
 unfolding wordFaults
 returns-5 c = told-next (passed-6 (c .before .before)) (lists (c .before) ∙ lt-ltb 750 _ (c .if5 .taken))
 
--- src/lib.rt:56:8
 any-set-requires-2 : tie.Need-any-set-requires-2
 any-set-requires-2 c κs = search needs
 
--- src/lib.rt:57:9
 returns-6 : tie.Need-returns-6
 unfolding wordFaults
 returns-6 c = told-next (passed-7 (c .before .before)) (padding (c .before) ∙ c .if6 .taken)
 
--- src/lib.rt:59:38
 of-word-requires : tie.Need-of-word-requires
 of-word-requires c κs = search needs
 
--- src/lib.rt:59:13
 list-fault-requires : tie.Need-list-fault-requires
 list-fault-requires c κs = search needs
 
--- src/lib.rt:61:9
 returns-7 : tie.Need-returns-7
 returns-7 c = told-at (passed-8 (c .before .before .before)) _ (judged (c .before)) (c .if7 .taken)
 
--- src/lib.rt:34:1
 returns-8 : tie.Need-returns-8
 returns-8 c =
     let t = tour-9 (c .before) in

@@ -1,3 +1,4 @@
+-- `to_word::write` meets its contract. Assumes nothing.
 use mathlib.Core.Path.{sym, ap, _∙_}
 use Rattle.sheets.specs.Answers.{told}
 use Rattle.to_word.proofs.Written.{denied-length, denied, stated, written}
@@ -12,7 +13,6 @@ use Rattle.to_word.proofs.write.Lts as lts
 use Rattle.forms.proofs.check.Reads as check-reads
 use Rattle.to_word.proofs.lay.lay.Reads as lay-reads
 
--- src/lib.rt:13:9
 -- what is lent is bytes
 bytes : (c : tie.After-shared-slice-known) → Below 256 (c .before .args .sheet .now)
 bytes c = below-of 256 (c .before .args .sheet .now) (λ i. omega (arith, c .shared-slice-known .given i))
@@ -20,30 +20,24 @@ bytes c = below-of 256 (c .before .args .sheet .now) (λ i. omega (arith, c .sha
 returns : tie.Need-returns
 returns c = let a = c .before .before .before .args in (denied-length (a .sheet .now) (a .word .now) (c .if1 .taken), bytes (c .before .before))
 
--- src/lib.rt:15:11
 check-requires : tie.Need-check-requires
 check-requires c κs = search needs
 
--- src/lib.rt:16:28
 enum-known-p : tie.Need-enum-known-p
 enum-known-p c = search needs
 
--- src/lib.rt:17:13
 lay-requires : tie.Need-lay-requires
 lay-requires c κs =
     let a = c .before .before .before .before .before .before .before .before .args in
     let f = c .before .before .p .given in
     stated (a .sheet .now) (a .word .now) (search needs) (f .0 .0) (f .0 .1 .0) (f .0 .1 .1 .0) (sym (ap told (f .1)) ∙ c .before .before .before .before .check .ensures .0)
 
--- src/lib.rt:20:25
 enum-known-n : tie.Need-enum-known-n
 enum-known-n c = search needs
 
--- src/lib.rt:9:1
 same-length : tie.Need-same-length
 same-length c = search needs
 
--- src/lib.rt:9:1
 returns-2 : tie.Need-returns-2
 returns-2 c =
     let a = c .before .before .before .before .before .before .before .before .before .before .before .args in
@@ -53,7 +47,6 @@ returns-2 c =
       bytes (c .before .before .before .before .before .before .before .before .before .before),
     )
 
--- src/lib.rt:9:1
 returns-3 : tie.Need-returns-3
 returns-3 c =
     let a = c .before .before .before .before .before .before .before .args in

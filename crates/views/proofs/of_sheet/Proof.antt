@@ -1,3 +1,4 @@
+-- `views::of_sheet` meets its contract. Assumes nothing.
 use Rattle.views.proofs.Views.{sheet-viewed}
 use borrow.Author.Needs.{needs}
 use Rattle.views.proofs.of_sheet.Statement.{statement}
@@ -5,43 +6,33 @@ use Rattle.views.proofs.of_sheet.Tie as tie
 use Rattle.views.proofs.of_sheet.Reads as reads
 use Rattle.views.proofs.of_sheet.Lts as lts
 
--- src/lib.rt:48:21
 mul-multiplex : tie.Need-mul-multiplex
 mul-multiplex c = search needs
 
--- src/lib.rt:49:16
 add-tail : tie.Need-add-tail
 add-tail c = search needs
 
--- src/lib.rt:50:17
 add-pipes : tie.Need-add-pipes
 add-pipes c = search needs
 
--- src/lib.rt:51:27
 mul-streams : tie.Need-mul-streams
 mul-streams c = search needs
 
--- src/lib.rt:51:19
 add-streams : tie.Need-add-streams
 add-streams c = search needs
 
--- src/lib.rt:57:29
 mul-t9 : tie.Need-mul-t9
 mul-t9 c = search needs
 
--- src/lib.rt:57:19
 add-t10 : tie.Need-add-t10
 add-t10 c = search needs
 
--- src/lib.rt:57:19
 add-t11 : tie.Need-add-t11
 add-t11 c = search needs
 
--- src/lib.rt:58:16
 add-t12 : tie.Need-add-t12
 add-t12 c = search needs
 
--- src/lib.rt:45:1
 returns : tie.Need-returns
 returns c = sheet-viewed (c .args .h) (c .args .p) (c .args .s)
 

@@ -1,3 +1,4 @@
+-- `forms::judge::counts_differ` meets its contract. Assumes nothing.
 use mathlib.Core.Path.{sym}
 use Rattle.sheets.proofs.Owning.{owned-small, tail-small}
 use Rattle.forms.proofs.Counts.{pipes-differ, streams-differ, sections-left}
@@ -10,25 +11,20 @@ use Rattle.records.proofs.multiplex_at.Reads as multiplex-at-reads
 use Rattle.sheets.proofs.owned.owned_at.Reads as owned-at-reads
 use Rattle.sheets.proofs.owned.tail_owned_at.Reads as tail-owned-at-reads
 
--- src/judge.rt:29:13
 multiplex-at-requires : tie.Need-multiplex-at-requires
 multiplex-at-requires c κs = search needs
 
--- src/judge.rt:30:9
 returns : tie.Need-returns
 returns c =
     let a = c .before .before .before .before .args in
     sym (pipes-differ (a .sheet .now) (a .v) (a .p) (a .s) (a .d) (c .before .before .multiplex-at .result) (c .before .before .multiplex-at .ensures) (c .if1 .taken))
 
--- src/judge.rt:32:9
 owned-at-requires : tie.Need-owned-at-requires
 owned-at-requires c κs = search needs
 
--- src/judge.rt:33:21
 tail-owned-at-requires : tie.Need-tail-owned-at-requires
 tail-owned-at-requires c κs = search needs
 
--- src/judge.rt:33:13
 add-if2 : tie.Need-add-if2
 add-if2 c =
     let a = c .before .before .before .before .before .before .before .args in
@@ -36,7 +32,6 @@ add-if2 c =
     let t = tail-small (a .sheet .now) (a .v .tail) (c .before .tail-owned-at .ensures) in
     search (needs, h .0, t)
 
--- src/judge.rt:34:9
 returns-2 : tie.Need-returns-2
 returns-2 c =
     let o = c .before .before .before .before in
@@ -45,7 +40,6 @@ returns-2 c =
     sym (streams-differ (a .sheet .now) (a .v) (a .p) (a .s) (a .d) (m .multiplex-at .result) (m .multiplex-at .ensures) (o .if1 .left) _ (c .before .before .before .owned-at .ensures)
     _ (c .before .before .tail-owned-at .ensures) (c .if2 .taken))
 
--- src/judge.rt:26:1
 returns-3 : tie.Need-returns-3
 returns-3 c =
     let o = c .before .before .before .before .before in

@@ -1,3 +1,4 @@
+-- `forms::judge::record_fault` meets its contract. Assumes nothing.
 use mathlib.Core.Path.{_≡_, sym, ap, _∙_}
 use mathlib.Core.Bool.{not}
 use mathlib.Core.List.{List}
@@ -75,19 +76,15 @@ unfolding recordFaultsAt
 clear-4 c = let k = clear-3 (c .before .before) in (k .0, (k .1 .0, (k .1 .1 .0, (sized (c .before) ∙ le-ltb 750 (c .before .lists-end .result) (omega (arith, c .if4 .left)), tt))))
 
 -- ---- the needs
--- src/judge.rt:43:9
 of-sheet-requires : tie.Need-of-sheet-requires
 of-sheet-requires c κs = search needs
 
--- src/judge.rt:44:23
 sub-top-set : tie.Need-sub-top-set
 sub-top-set c = let a = c .before .before .before .args in let h = above (a .h) (a .p) (a .s) (a .d) (a .sheet .now) _ (c .before .of-sheet .ensures) in search (needs, h)
 
--- src/judge.rt:44:8
 top-set-requires : tie.Need-top-set-requires
 top-set-requires c κs = search needs
 
--- src/judge.rt:45:9
 returns : tie.Need-returns
 unfolding recordFaultsAt
 returns c =
@@ -95,11 +92,9 @@ returns c =
     let a = t .before .before .before .before .args in
     said (a .h) (a .p) (a .s) (a .d) (a .sheet .now) _ (t .before .before .of-sheet .ensures) 0 tt (topped (c .before) ∙ c .if1 .taken)
 
--- src/judge.rt:47:8
 multiplex-at-requires : tie.Need-multiplex-at-requires
 multiplex-at-requires c κs = search needs
 
--- src/judge.rt:48:9
 returns-2 : tie.Need-returns-2
 unfolding recordFaultsAt
 returns-2 c =
@@ -107,11 +102,9 @@ returns-2 c =
     let a = t .before .before .before .before .args in
     said (a .h) (a .p) (a .s) (a .d) (a .sheet .now) _ (t .before .before .of-sheet .ensures) 1 (clear-1 (c .before .before .before)) (versioned (c .before) ∙ ap not (ne-eqb _ 0 (c .if2 .taken)))
 
--- src/judge.rt:50:8
 counts-differ-requires : tie.Need-counts-differ-requires
 counts-differ-requires c κs = search needs
 
--- src/judge.rt:51:9
 returns-3 : tie.Need-returns-3
 unfolding recordFaultsAt
 returns-3 c =
@@ -119,15 +112,12 @@ returns-3 c =
     let a = t .before .before .before .before .args in
     said (a .h) (a .p) (a .s) (a .d) (a .sheet .now) _ (t .before .before .of-sheet .ensures) 2 (clear-2 (c .before .before)) (counted (c .before) ∙ c .if3 .taken)
 
--- src/judge.rt:53:35
 lists-end-requires : tie.Need-lists-end-requires
 lists-end-requires c κs = search needs
 
--- src/judge.rt:53:35
 cast-if4 : tie.Need-cast-if4
 cast-if4 c = search needs
 
--- src/judge.rt:54:9
 returns-4 : tie.Need-returns-4
 unfolding recordFaultsAt
 returns-4 c =
@@ -135,11 +125,9 @@ returns-4 c =
     let a = t .before .before .before .before .args in
     said (a .h) (a .p) (a .s) (a .d) (a .sheet .now) _ (t .before .before .of-sheet .ensures) 3 (clear-3 (c .before .before)) (sized (c .before) ∙ lt-ltb 750 _ (c .if4 .taken))
 
--- src/judge.rt:56:5
 list-fault-requires : tie.Need-list-fault-requires
 list-fault-requires c κs = search needs
 
--- src/judge.rt:40:1
 returns-5 : tie.Need-returns-5
 returns-5 c =
     let e = c .before .before in

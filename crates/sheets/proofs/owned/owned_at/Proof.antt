@@ -1,3 +1,4 @@
+-- `sheets::owned::owned_at` meets its contract. Assumes nothing.
 use Prim.Native.Nat.{_-_, _≤_}
 use native.Mathlib.Omega.{arith}
 use mathlib.Core.Path.{ap, _∙_}
@@ -16,15 +17,12 @@ Inv-loop w at p s₀ d₀ i₀ s d i = (i ≤ p) × Sum w at i s d
 abbrev μ-loop : tie.MeasureT-loop
 μ-loop w at p s₀ d₀ i₀ s d i = p - i
 
--- src/owned.rt:20:5
 loop-holds : tie.Need-loop-holds Inv-loop μ-loop
 loop-holds c = (omega arith, sum-none (c .before .args .w .now) (c .before .args .at))
 
--- src/owned.rt:21:13
 pipe-at-requires : tie.Need-pipe-at-requires Inv-loop μ-loop
 pipe-at-requires c κs = tt
 
--- src/owned.rt:22:9
 add-s : tie.Need-add-s Inv-loop μ-loop
 add-s c =
     let a = c .before .before .before .before .before .args in
@@ -33,7 +31,6 @@ add-s c =
     let h = l .inv .1 .streams in
     search needs
 
--- src/owned.rt:23:9
 add-d : tie.Need-add-d Inv-loop μ-loop
 add-d c =
     let a = c .before .before .before .before .before .before .args in
@@ -42,22 +39,18 @@ add-d c =
     let h = l .inv .1 .sections in
     search needs
 
--- src/owned.rt:24:9
 add-i : tie.Need-add-i Inv-loop μ-loop
 add-i c = search needs
 
--- src/owned.rt:20:5
 loop-less : tie.Need-loop-less Inv-loop μ-loop
 loop-less c = search needs
 
--- src/owned.rt:20:5
 loop-again : tie.Need-loop-again Inv-loop μ-loop
 loop-again c =
     let a = c .before .before .before .before .before .before .args in
     let l = c .before .before .before .before .loop in
     (search needs, sum-more (a .w .now) (a .at) (l .inv .1) _ (c .before .before .pipe-at .ensures))
 
--- src/owned.rt:14:1
 returns : tie.Need-returns Inv-loop μ-loop
 returns c =
     let a = c .before .before .before .args in

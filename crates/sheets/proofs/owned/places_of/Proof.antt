@@ -1,3 +1,4 @@
+-- `sheets::owned::places_of` meets its contract. Assumes nothing.
 use Rattle.sheets.proofs.Owning.{apart-small, places-are}
 use borrow.Author.Needs.{needs}
 use Rattle.sheets.proofs.owned.places_of.Statement.{statement}
@@ -6,59 +7,45 @@ use Rattle.sheets.proofs.owned.places_of.Reads as reads
 use Rattle.sheets.proofs.owned.places_of.Lts as lts
 use Rattle.sheets.proofs.owned.owned_at.Reads as owned-at-reads
 
--- src/owned.rt:50:9
 owned-at-requires : tie.Need-owned-at-requires
 owned-at-requires c κs = search needs
 
--- src/owned.rt:52:15
 cast-t5 : tie.Need-cast-t5
 cast-t5 c = search needs
 
--- src/owned.rt:52:34
 cast-t6 : tie.Need-cast-t6
 cast-t6 c = search needs
 
--- src/owned.rt:52:34
 mul-t8 : tie.Need-mul-t8
 mul-t8 c = search needs
 
--- src/owned.rt:52:15
 add-t9 : tie.Need-add-t9
 add-t9 c = search needs
 
--- src/owned.rt:53:18
 cast-t10 : tie.Need-cast-t10
 cast-t10 c = search needs
 
--- src/owned.rt:53:39
 cast-t11 : tie.Need-cast-t11
 cast-t11 c = search needs
 
--- src/owned.rt:53:70
 cast-t12 : tie.Need-cast-t12
 cast-t12 c = search needs
 
--- src/owned.rt:53:39
 mul-t13 : tie.Need-mul-t13
 mul-t13 c = search needs
 
--- src/owned.rt:53:18
 add-t14 : tie.Need-add-t14
 add-t14 c = search needs
 
--- src/owned.rt:54:19
 cast-t15 : tie.Need-cast-t15
 cast-t15 c = search needs
 
--- src/owned.rt:54:41
 cast-t16 : tie.Need-cast-t16
 cast-t16 c = search needs
 
--- src/owned.rt:54:60
 cast-t17 : tie.Need-cast-t17
 cast-t17 c = search needs
 
--- src/owned.rt:54:41
 mul-t18 : tie.Need-mul-t18
 mul-t18 c =
     let o = c .before .before .before .before .before .before in
@@ -67,7 +54,6 @@ mul-t18 c =
     let k = apart-small a (o .owned-at .result .s) (search needs) (search needs) in
     search (needs, h, k)
 
--- src/owned.rt:54:19
 add-t19 : tie.Need-add-t19
 add-t19 c =
     let o = c .before .before .before .before .before .before in
@@ -76,7 +62,6 @@ add-t19 c =
     let k = apart-small a (o .owned-at .result .s) (search needs) (search needs) in
     search (needs, h, k)
 
--- src/owned.rt:47:1
 returns : tie.Need-returns
 returns c =
     let o = c .before .before .before .before .before .before in

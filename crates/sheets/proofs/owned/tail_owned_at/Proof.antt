@@ -1,3 +1,4 @@
+-- `sheets::owned::tail_owned_at` meets its contract. Assumes nothing.
 use Rattle.sheets.proofs.Owning.{tail-none, tail-some}
 use borrow.Author.Needs.{needs}
 use Rattle.records.proofs.tail_at.Reads as tail-at-reads
@@ -6,15 +7,12 @@ use Rattle.sheets.proofs.owned.tail_owned_at.Tie as tie
 use Rattle.sheets.proofs.owned.tail_owned_at.Reads as reads
 use Rattle.sheets.proofs.owned.tail_owned_at.Lts as lts
 
--- src/owned.rt:33:8
 tail-at-requires : tie.Need-tail-at-requires
 tail-at-requires c κs = search needs
 
--- src/owned.rt:34:9
 returns : tie.Need-returns
 returns c = let a = c .before .before .before .args in tail-none (a .w .now) (a .at) (c .before .tail-at .ensures) (c .if1 .taken)
 
--- src/owned.rt:30:1
 returns-2 : tie.Need-returns-2
 returns-2 c = let a = c .before .before .before .args in tail-some (a .w .now) (a .at) (c .before .tail-at .ensures) (c .if1 .left)
 

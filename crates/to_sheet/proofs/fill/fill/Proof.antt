@@ -1,3 +1,4 @@
+-- `to_sheet::fill::fill` meets its contract. Assumes nothing.
 use Prim.Native.Nat.{ℕ, _*_}
 use mathlib.Core.Path.{_≡_}
 use mathlib.Core.List.{List}
@@ -30,27 +31,21 @@ to : (c : tie.After-of-sheet) → SheetPlaces form1 (start c .args .p) (start c 
 to c = sheet-places form1 (start c .args .p) (start c .args .s) _ (c .of-sheet .ensures)
 
 -- ---- the needs
--- src/fill.rt:74:9
 of-word-requires : tie.Need-of-word-requires
 of-word-requires c κs = search needs
 
--- src/fill.rt:75:9
 of-sheet-requires : tie.Need-of-sheet-requires
 of-sheet-requires c κs = search needs
 
--- src/fill.rt:76:19
 cast-put-header : tie.Need-cast-put-header
 cast-put-header c = search needs
 
--- src/fill.rt:76:28
 cast-put-header-2 : tie.Need-cast-put-header-2
 cast-put-header-2 c = search needs
 
--- src/fill.rt:76:5
 put-header-requires : tie.Need-put-header-requires
 put-header-requires c κs = search needs
 
--- src/fill.rt:77:5
 copy-bytes-requires : tie.Need-copy-bytes-requires
 copy-bytes-requires c κs =
     let o = start (c .before .before .before .before .before) in
@@ -61,7 +56,6 @@ copy-bytes-requires c κs =
     let r = o .pre .room in
     (omega (arith, h, f, n), omega (arith, n), search (needs, k .multiplex, k .tail, k .pipes, k .streams, k .sections, r))
 
--- src/fill.rt:78:5
 copy-bytes-requires-2 : tie.Need-copy-bytes-requires-2
 copy-bytes-requires-2 c κs =
     let o = start (c .before .before .before .before .before .before .before .before .before) in
@@ -72,11 +66,9 @@ copy-bytes-requires-2 c κs =
     let r = o .pre .room in
     (omega (arith, h, f, n), omega (arith, n), search (needs, k .multiplex, k .tail, k .pipes, k .streams, k .sections, r))
 
--- src/fill.rt:79:34
 mul-copy-bytes : tie.Need-mul-copy-bytes
 mul-copy-bytes c = search needs
 
--- src/fill.rt:79:5
 copy-bytes-requires-3 : tie.Need-copy-bytes-requires-3
 copy-bytes-requires-3 c κs =
     let o = start (c .before .before .before .before .before .before .before .before .before .before .before .before .before) in
@@ -87,11 +79,9 @@ copy-bytes-requires-3 c κs =
     let r = o .pre .room in
     (omega (arith, h, f, n), omega (arith, n), search (needs, k .multiplex, k .tail, k .pipes, k .streams, k .sections, r))
 
--- src/fill.rt:83:9
 mul-copy-bytes-2 : tie.Need-mul-copy-bytes-2
 mul-copy-bytes-2 c = search needs
 
--- src/fill.rt:80:5
 copy-bytes-requires-4 : tie.Need-copy-bytes-requires-4
 copy-bytes-requires-4 c κs =
     let o = start (c .before .before .before .before .before .before .before .before .before .before .before .before .before .before .before .before .before) in
@@ -102,7 +92,6 @@ copy-bytes-requires-4 c κs =
     let r = o .pre .room in
     (omega (arith, h, f, n), omega (arith, n), search (needs, k .multiplex, k .tail, k .pipes, k .streams, k .sections, r))
 
--- src/fill.rt:87:5
 copy-sections-requires : tie.Need-copy-sections-requires
 copy-sections-requires c κs =
     let o = start (c .before .before .before .before .before .before .before .before .before .before .before .before .before .before .before .before .before .before .before .before .before) in
@@ -113,11 +102,9 @@ copy-sections-requires c κs =
     let r = o .pre .room in
     (omega (arith, h, f, n), omega (arith, n), search (needs, k .multiplex, k .tail, k .pipes, k .streams, k .sections, r))
 
--- src/fill.rt:70:1
 same-length : tie.Need-same-length
 same-length c = search needs
 
--- src/fill.rt:70:1
 returns : tie.Need-returns
 returns c =
     let n6 = c .before .before in

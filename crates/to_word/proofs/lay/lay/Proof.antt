@@ -1,3 +1,4 @@
+-- `to_word::lay::lay` meets its contract. Assumes nothing.
 use mathlib.Core.Path.{sym, _∙_}
 use native.Mathlib.Omega.{arith}
 use denote.Ref.{now}
@@ -43,35 +44,27 @@ lists-laid c =
     (n1 .put-fields .ensures) (n2 .put-fields2 .ensures) (n3 .put-fields3 .ensures) (n4 .put-fields4 .ensures) (c .put-fields5 .ensures)
 
 -- ---- the needs
--- src/lay.rt:90:9
 of-sheet-requires : tie.Need-of-sheet-requires
 of-sheet-requires c κs = search needs
 
--- src/lay.rt:96:9
 put-fields-requires : tie.Need-put-fields-requires
 put-fields-requires c κs = search needs
 
--- src/lay.rt:104:9
 mul-put-fields : tie.Need-mul-put-fields
 mul-put-fields c = search needs
 
--- src/lay.rt:97:9
 put-fields-requires-2 : tie.Need-put-fields-requires-2
 put-fields-requires-2 c κs = search needs
 
--- src/lay.rt:106:9
 put-fields-requires-3 : tie.Need-put-fields-requires-3
 put-fields-requires-3 c κs = search needs
 
--- src/lay.rt:114:9
 mul-put-fields-2 : tie.Need-mul-put-fields-2
 mul-put-fields-2 c = search needs
 
--- src/lay.rt:107:9
 put-fields-requires-4 : tie.Need-put-fields-requires-4
 put-fields-requires-4 c κs = search needs
 
--- src/lay.rt:116:9
 put-fields-requires-5 : tie.Need-put-fields-requires-5
 put-fields-requires-5 c κs =
     let n4 = c .before .before .before in
@@ -91,7 +84,6 @@ put-fields-requires-5 c κs =
       q4 .len ∙ q3 .len ∙ q2 .len ∙ q1 .len ∙ o .pre .room,
     )
 
--- src/lay.rt:117:5
 pad-requires : tie.Need-pad-requires
 pad-requires c κs =
     let n5 = c .before .before .before in
@@ -99,14 +91,12 @@ pad-requires c κs =
     let o = from-1 (from-5 n5) in
     (l .room, l .step, omega (arith, l .place, o .pre .fits), l .len ∙ o .pre .room)
 
--- src/lay.rt:118:5
 seal-requires : tie.Need-seal-requires
 seal-requires c κs =
     let n5 = c .before .before .before .before .before .before .before in
     let o = from-1 (from-5 n5) in
     padded-bytes (now (o .args .sheet)) (o .args .p) (o .args .s) (o .args .d) (o .pre .sheet) (o .pre .fits) (lists-laid n5) (c .before .before .before .pad .ensures)
 
--- src/lay.rt:86:1
 same-length : tie.Need-same-length
 same-length c =
     let n5 = c .before .before .before .before .before .before .before .before .before .before in
@@ -114,7 +104,6 @@ same-length c =
     word-bytes (now (o .args .sheet)) (o .args .p) (o .args .s) (o .args .d) (o .pre .sheet) (o .pre .fits) (lists-laid n5) (c .before .before .before .before .before .before .pad .ensures) (c .before .before .seal .ensures)
     ∙ sym (o .pre .room)
 
--- src/lay.rt:86:1
 returns : tie.Need-returns
 returns c =
     let n5 = c .before .before .before .before .before .before .before .before .before .before in

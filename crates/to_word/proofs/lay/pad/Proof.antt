@@ -1,3 +1,4 @@
+-- `to_word::lay::pad` meets its contract. Assumes nothing.
 use Prim.Native.Nat.{_-_}
 use mathlib.Core.Path.{_∙_}
 use native.Mathlib.Omega.{arith}
@@ -19,11 +20,9 @@ Inv-loop out₀ s₀ out s = Flushed out₀ s₀ out s
 abbrev μ-loop : tie.MeasureT-loop
 μ-loop out₀ s₀ out s = 96 - s .at
 
--- src/lay.rt:58:35
 sub-put : tie.Need-sub-put Inv-loop μ-loop
 sub-put c = search needs
 
--- src/lay.rt:58:9
 put-requires : tie.Need-put-requires Inv-loop μ-loop
 put-requires c κs = search needs
 
@@ -36,11 +35,9 @@ first c =
     flushed-first (now (o .args .out)) (o .args .sink) (o .pre .0) (o .pre .1) (o .pre .2)
     (wide-put 0 (32 - o .args .sink .used) (now (o .args .out)) (o .args .sink) (q .put .result) (q .put .last .0) (o .pre .0) (omega arith) (pow-pos (32 - o .args .sink .used)) (omega (arith, o .pre)) (q .put .ensures))
 
--- src/lay.rt:59:5
 loop-holds : tie.Need-loop-holds Inv-loop μ-loop
 loop-holds c = flushed-none (first c)
 
--- src/lay.rt:60:9
 put-requires-2 : tie.Need-put-requires-2 Inv-loop μ-loop
 put-requires-2 c κs = search needs
 
@@ -55,19 +52,15 @@ put-at c =
     wide-put 0 32 (l .out) (l .s) (q .put2 .result) (q .put2 .last .0) (omega (arith, l .inv .empty)) (omega arith) (pow-pos 32)
     (omega (arith, l .inv .empty, l .inv .fours, l .inv .len, n, b .before .before .before .before .before .before .before .pre, c .before .before .before .before .if1 .taken)) (q .put2 .ensures)
 
--- src/lay.rt:59:5
 loop-less : tie.Need-loop-less Inv-loop μ-loop
 loop-less c = omega (arith, flushed-step _ _ (c .before .before .before .before .before .before .loop .inv) (put-at c))
 
--- src/lay.rt:59:5
 loop-again : tie.Need-loop-again Inv-loop μ-loop
 loop-again c = flushed-more _ _ (c .before .before .before .before .before .before .loop .inv) (c .before .before .before .before .if1 .taken) (put-at c)
 
--- src/lay.rt:54:1
 same-length : tie.Need-same-length Inv-loop μ-loop
 same-length c = let b = c .before .before in b .loop .inv .len ∙ first (b .before) .len
 
--- src/lay.rt:54:1
 returns : tie.Need-returns Inv-loop μ-loop
 returns c = let b = c .before .before in flushed-all (b .before .before .before .before .before .before .before .pre .3) (flushed-then (first (b .before)) (b .loop .inv)) (omega (arith, c .if1 .left))
 

@@ -1,3 +1,4 @@
+-- `to_word::lay::put_fields` meets its contract. Assumes nothing.
 use Prim.Native.Nat.{ℕ, _+_, _-_, _*_, _^_, _≤_, _<_}
 use mathlib.Core.Path.{_≡_, sym, ap, subst}
 use native.Mathlib.Nat.{mul-le-mul-left, mul-suc}
@@ -21,43 +22,33 @@ Inv-loop out₀ sheet at apart width n s₀ i₀ out s i = (i ≤ n) × Puts she
 abbrev μ-loop : tie.MeasureT-loop
 μ-loop out₀ sheet at apart width n s₀ i₀ out s i = n - i
 
--- src/lay.rt:41:5
 loop-holds : tie.Need-loop-holds Inv-loop μ-loop
 loop-holds c = let o = c .before .before in (omega arith, puts-none (o .args .sheet .now) (o .args .at) (o .args .apart) (o .args .width) (o .args .out .now) (o .args .sink) (o .pre .0))
 
--- src/lay.rt:44:44
 cast-field : tie.Need-cast-field Inv-loop μ-loop
 cast-field c = search needs
 
--- src/lay.rt:44:27
 mul-field : tie.Need-mul-field Inv-loop μ-loop
 mul-field c = let o = c .before .before .before .before in let h = apart-small (o .args .apart) (c .before .loop .i) (o .args .n) (o .pre .2) (search needs) (o .pre .3) in search (needs, h)
 
--- src/lay.rt:44:13
 add-field : tie.Need-add-field Inv-loop μ-loop
 add-field c = let o = c .before .before .before .before in let h = apart-small (o .args .apart) (c .before .loop .i) (o .args .n) (o .pre .2) (search needs) (o .pre .3) in search (needs, h)
 
--- src/lay.rt:42:13
 field-requires : tie.Need-field-requires Inv-loop μ-loop
 field-requires c κs = search needs
 
--- src/lay.rt:47:25
 cast-put : tie.Need-cast-put Inv-loop μ-loop
 cast-put c = search needs
 
--- src/lay.rt:47:9
 put-requires : tie.Need-put-requires Inv-loop μ-loop
 put-requires c κs = search needs
 
--- src/lay.rt:48:9
 add-i : tie.Need-add-i Inv-loop μ-loop
 add-i c = search needs
 
--- src/lay.rt:41:5
 loop-less : tie.Need-loop-less Inv-loop μ-loop
 loop-less c = search needs
 
--- src/lay.rt:41:5
 loop-again : tie.Need-loop-again Inv-loop μ-loop
 loop-again c =
     let f = c .before .before .before .before in
@@ -74,11 +65,9 @@ loop-again c =
           (omega (arith, p .moved, p .len, o .pre .4, m, ap (λ (k : ℕ). a .width * k) (add-one (l .i)), mul-suc (a .width) (l .i))) (q .ensures)),
     )
 
--- src/lay.rt:27:1
 same-length : tie.Need-same-length Inv-loop μ-loop
 same-length c = c .before .loop .inv .1 .len
 
--- src/lay.rt:27:1
 returns : tie.Need-returns Inv-loop μ-loop
 returns c =
     let o = c .before .before .before .before in

@@ -1,3 +1,4 @@
+-- `to_word::lay::seal` meets its contract. Assumes nothing.
 use native.Mathlib.Omega.{arith}
 use Rattle.wide.proofs.Widens.{wide-put}
 use denote.Ref.{now}
@@ -12,51 +13,39 @@ use Rattle.bits.proofs.field.Reads as field-reads
 use Rattle.wide.proofs.put.Reads as put-reads
 use Rattle.crc.proofs.crc12.Reads as crc12-reads
 
--- src/lay.rt:69:15
 crc12-requires : tie.Need-crc12-requires
 crc12-requires c κs = search needs
 
--- src/lay.rt:69:15
 cast-crc : tie.Need-cast-crc
 cast-crc c = search needs
 
--- src/lay.rt:70:16
 sub-last : tie.Need-sub-last
 sub-last c = search needs
 
--- src/lay.rt:71:35
 mul-used : tie.Need-mul-used
 mul-used c = search needs
 
--- src/lay.rt:71:16
 sub-used : tie.Need-sub-used
 sub-used c = search needs
 
--- src/lay.rt:72:33
 mul-field : tie.Need-mul-field
 mul-field c = search needs
 
--- src/lay.rt:72:15
 field-requires : tie.Need-field-requires
 field-requires c κs = search needs
 
--- src/lay.rt:72:15
 cast-acc : tie.Need-cast-acc
 cast-acc c = search needs
 
--- src/lay.rt:80:9
 mul-put : tie.Need-mul-put
 mul-put c = search needs
 
--- src/lay.rt:73:5
 put-requires : tie.Need-put-requires
 put-requires c κs = search needs
 
--- src/lay.rt:65:1
 same-length : tie.Need-same-length
 same-length c = search needs
 
--- src/lay.rt:65:1
 returns : tie.Need-returns
 returns c =
     let q = c .before .before in

@@ -1,14 +1,13 @@
+-- `walk::plain::found` meets its contract. Assumes nothing.
 use mathlib.Core.Path.{refl}
 use Rattle.walk.specs.Steps.{foundOf}
 use borrow.Author.Needs.{needs}
 use Rattle.walk.proofs.plain.found.Statement.{statement}
 use Rattle.walk.proofs.plain.found.Tie as tie
 
--- src/plain.rt:49:26
 cast-t6 : tie.Need-cast-t6
 cast-t6 c = search needs
 
--- src/plain.rt:46:1
 returns : tie.Need-returns
 unfolding foundOf
 returns c = refl

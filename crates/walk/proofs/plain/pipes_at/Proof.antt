@@ -1,18 +1,16 @@
+-- `walk::plain::pipes_at` meets its contract. Assumes nothing.
 use native.Mathlib.Omega.{arith}
 use Rattle.records.proofs.Fields.{read-lt}
 use borrow.Author.Needs.{needs}
 use Rattle.walk.proofs.plain.pipes_at.Statement.{statement}
 use Rattle.walk.proofs.plain.pipes_at.Tie as tie
 
--- src/plain.rt:21:5
 field-requires : tie.Need-field-requires
 field-requires c κs = search needs
 
--- src/plain.rt:21:5
 cast-result : tie.Need-cast-result
 cast-result c = let a = c .before .before .args in let h = read-lt (a .word .now) (a .at) 4 (omega arith) (c .field .ensures) in search (needs, h)
 
--- src/plain.rt:18:1
 returns : tie.Need-returns
 returns c = search needs
 

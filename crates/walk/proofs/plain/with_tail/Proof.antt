@@ -1,22 +1,19 @@
+-- `walk::plain::with_tail` meets its contract. Assumes nothing.
 use mathlib.Core.Path.{refl}
 use Rattle.walk.specs.Steps.{withTail}
 use borrow.Author.Needs.{needs}
 use Rattle.walk.proofs.plain.with_tail.Statement.{statement}
 use Rattle.walk.proofs.plain.with_tail.Tie as tie
 
--- src/plain.rt:42:18
 cast-t3 : tie.Need-cast-t3
 cast-t3 c = search needs
 
--- src/plain.rt:42:18
 add-t5 : tie.Need-add-t5
 add-t5 c = search needs
 
--- src/plain.rt:42:16
 cast-t7 : tie.Need-cast-t7
 cast-t7 c = search needs
 
--- src/plain.rt:39:1
 returns : tie.Need-returns
 unfolding withTail
 returns c = refl
