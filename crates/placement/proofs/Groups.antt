@@ -1,6 +1,6 @@
 -- Laws of placement by groups: one symbol more, and one group more of a lane.
 -- Assumes nothing.
-use Prim.Native.Nat.{ℕ, zero, suc, _+_, _*_, _/_, _%_, _≤_, _<_}
+use Prim.Native.Nat.{ℕ, zero, suc, _+_, _*_, _%_, _≤_, _<_}
 use mathlib.Core.Path.{_≡_, refl, sym, ap, ap₂, _∙_, subst, subst₂}
 use mathlib.Core.List.{List}
 use native.Mathlib.Nat.{add-zero, add-assoc}
@@ -16,8 +16,8 @@ use Rattle.patterns.specs.Rows.{digit, copies}
 use Rattle.patterns.specs.Sent.{places, total}
 use Rattle.puncturing.specs.Entries.{entries}
 use Rattle.patterns.proofs.Totals.{total-zero, total-more, total-mono, total-cong, total-add}
-use Rattle.patterns.proofs.Groups.{entryOf, entry-data, entry-tail, data-once, tail-sent}
-use Rattle.puncturing.proofs.Lanes.{entry-digit}
+use Rattle.patterns.proofs.Groups.{data-once, tail-sent}
+use Rattle.puncturing.proofs.Lanes.{data-digit}
 use Rattle.placement.specs.Place.{held}
 use Rattle.placement.specs.Inside.{run, Once, placedGroup, Placeable, Placed}
 
@@ -89,7 +89,7 @@ after-data p n h =
 
 module _ (p n : ℕ) (values lane₀ : List ℤ) (h : Placeable p n values lane₀) (i counts : ℕ) (l : i < n) (ec : counts ≡ getD (entries p) (i % 12) 0) where
   digits : (j : ℕ) → j < 5 → digit counts j ≡ copies p n (5 * i + j)
-  digits j b = ap (λ (x : ℕ). digit x j) (ec ∙ ap (λ (x : ℕ). getD (entries p) x 0) (sym (entry-data n i l))) ∙ entry-digit p n i j (h .pattern) (omega arith) b
+  digits j b = ap (λ (x : ℕ). digit x j) ec ∙ data-digit p n i j (h .pattern) l b
 
   pub group-once : Once counts
   group-once j b = subst (λ (x : ℕ). x < 2) (sym (digits j b)) (data-once p n (5 * i + j) (h .pattern) (omega arith))
@@ -107,10 +107,3 @@ module _ (p n : ℕ) (values lane₀ : List ℤ) (h : Placeable p n values lane�
       subst (Placed p n values m r) e
       (subst₂ (λ (y : List ℤ) (z : ℕ). Placed p n values y z (5 * i + 5)) (sym (q .memory)) (sym (q .answer))
       (placed-symbols p n values lane at i counts u (omega arith) digits 5 (omega arith)))
-
--- how often the place k of the tail is sent, by the tail's six entries
-pub tail-digit : (p n k : ℕ) → p < 28 → k < 30 → digit (getD (entries p) (12 + k / 5) 0) (k % 5) ≡ copies p n (5 * n + k)
-tail-digit p n k h l =
-    let e : entryOf n (n + k / 5) ≡ 12 + k / 5 = entry-tail n (n + k / 5) (omega arith) ∙ omega arith in
-    let f : 5 * (n + k / 5) + k % 5 ≡ 5 * n + k = omega arith in
-    ap (λ (x : ℕ). digit (getD (entries p) x 0) (k % 5)) (sym e) ∙ entry-digit p n (n + k / 5) (k % 5) h (omega arith) (omega arith) ∙ ap (copies p n) f

@@ -27,8 +27,7 @@ use Rattle.patterns.specs.Rows.{dataRows, tailRows, dataGroup, tailGroup, group
 use Rattle.puncturing.specs.Entries.{entries}
 use Rattle.patterns.specs.Sent.{places, spread, total, codeLength}
 use Rattle.patterns.proofs.Blocks.{coded-bounds}
-use Rattle.patterns.proofs.Groups.{entryOf}
-use Rattle.puncturing.proofs.Lanes.{entry-digit}
+use Rattle.puncturing.proofs.Lanes.{tail-digit}
 use Rattle.patterns.specs.Length.{Length}
 use Rattle.patterns.proofs.Length.{length-rule, total-rule}
 use Rattle.patterns.proofs.Totals.{total-add, total-cong}
@@ -89,14 +88,11 @@ tail-whole p hp s t =
 
 module _ (p n : ℕ) (w : List ℕ) (hp : p < 28) where
   sent-as : (k : ℕ) → k < 30 → digitAt (entries p) (60 + k) ≡ copies p n (5 * n + k)
-  unfolding digitAt entryOf
+  unfolding digitAt
   sent-as k h =
-      let i : ℕ = n + k / 5 in
-      let e1 : (60 + k) / 5 ≡ 12 + (i - n) = omega arith in
+      let e1 : (60 + k) / 5 ≡ 12 + k / 5 = omega arith in
       let e2 : (60 + k) % 5 ≡ k % 5 = omega arith in
-      let e3 : 5 * i + k % 5 ≡ 5 * n + k = omega arith in
-      let e4 : entryOf n i ≡ 12 + (i - n) = choose-false (i % 12) (12 + (i - n)) (le-ltb i n (omega arith)) in
-      ap₂ (λ (x y : ℕ). digit (getD (entries p) x 0) y) (e1 ∙ sym e4) e2 ∙ entry-digit p n i (k % 5) hp (omega arith) (omega arith) ∙ ap (copies p n) e3
+      ap₂ (λ (x y : ℕ). digit (getD (entries p) x 0) y) e1 e2 ∙ tail-digit p n k hp h
 
   symbol-at : (k : ℕ) → k < 30 → tailSymbol (state (bitAt w) n) (state (second w n) n) k ≡ laneBit w n (5 * n + k)
   unfolding tailSymbol laneBit group

@@ -2,30 +2,27 @@
 -- Assumes nothing.
 use Prim.Native.Nat.{ℕ, zero, suc, _+_, _-_, _*_, _/_, _%_, _^_, _≤_, _<_}
 use mathlib.Core.Path.{_≡_, refl, sym, ap, ap₂, _∙_, subst}
-use mathlib.Core.Bool.{Bool}
 use mathlib.Core.List.{List}
 use native.Mathlib.Nat.{add-zero, mul-one, not-suc-le-zero}
 use native.Mathlib.Omega.{arith}
 use lib.Bits.{bitXor}
-use lib.Dec.{T, leb, leb→le}
+use lib.Dec.{T}
 use lib.ListN.{length, getD}
 use lib.Pow.{high, low}
 use borrow.Author.Tests.{lt-ltb}
 use Rattle.ground.specs.Outcome.{Outcome, Is}
-use Rattle.ground.specs.Table.{tab, allBelow}
 use Rattle.ground.proofs.Choice.{choose-true}
-use Rattle.ground.proofs.Table.{at-all}
 use Rattle.bits.specs.Places.{bitAt, number}
 use Rattle.bits.proofs.Places.{bit-lt, number-lt, number-cong}
 use Rattle.wide.specs.Held.{placeOf}
 use Rattle.wide.proofs.Widens.{wide-put}
-use Rattle.patterns.specs.Rows.{dataRows, tailRows, dataGroup, tailGroup, groupAt, digit, copies}
+use Rattle.patterns.specs.Rows.{digit, copies}
 use Rattle.puncturing.specs.Entries.{entries}
 use Rattle.patterns.specs.Sent.{places, spread, total}
 use Rattle.patterns.proofs.Totals.{total-cong, total-add, total-mono, total-zero}
 use Rattle.patterns.proofs.Blocks.{coded-bounds}
-use Rattle.patterns.proofs.Groups.{entryOf}
-use Rattle.puncturing.proofs.Lanes.{entry-digit}
+use Rattle.patterns.proofs.Groups.{data-once}
+use Rattle.puncturing.proofs.Lanes.{data-digit}
 use Rattle.constituent.specs.Constituent.{next, state}
 use Rattle.constituent.specs.Symbols.{dataSymbols}
 use Rattle.turbo.specs.Lane.{second, group, laneBit}
@@ -155,36 +152,18 @@ module _ (f g : ℕ → ℕ) (hf : (k : ℕ) → f k < 2) (hg : (k : ℕ) → g 
       let l : B < 64 = both-lt (state f (i + 6)) (state g (i + 6)) (state-bits f (i + 6)) (state-bits g (i + 6)) in
       (ap (λ (x : ℕ). x / 64) e ∙ high (segment d (joint held) 30) 6 l, ap (λ (x : ℕ). x % 64) e ∙ low (segment d (joint held) 30) 6 l)
 
--- ---- every symbol of a data group is sent once or not at all
-once : ℕ → Bool
-once i = leb (digitAt (entries (i / 60)) (i % 60)) 1
-
-all-once : T (allBelow once 1680)
-unfolding once digitAt digit entries tab groupAt dataGroup tailGroup dataRows tailRows
-all-once = tt
-
-digit-whole : (p t : ℕ) → p < 28 → t < 60 → digitAt (entries p) t % 2 ≡ digitAt (entries p) t
-unfolding once
-digit-whole p t hp ht =
-    let e1 : (p * 60 + t) / 60 ≡ p = omega arith in
-    let e2 : (p * 60 + t) % 60 ≡ t = omega arith in
-    let l : digitAt (entries p) t ≤ 1 =
-    subst (λ (x : ℕ). x ≤ 1) (ap₂ (λ (a b : ℕ). digitAt (entries a) b) e1 e2)
-    (leb→le (digitAt (entries ((p * 60 + t) / 60)) ((p * 60 + t) % 60)) 1 (at-all once 1680 all-once (p * 60 + t) (omega arith))) in
-    omega (arith, l)
-
 -- ---- the six groups from 6 q on, of a block of n bits
 module _ (p n : ℕ) (w : List ℕ) (q h : ℕ) (hp : p < 28) (hq : 6 * q + 6 ≤ n) (eh : h ≡ q % 2) where
   sent-as : (t : ℕ) → t < 30 → halfAt (entries p) h t ≡ copies p n (30 * q + t)
-  unfolding digitAt entryOf
+  unfolding digitAt
   sent-as t ht =
       let i : ℕ = 6 * q + t / 5 in
       let e1 : (30 * h + t) / 5 ≡ i % 12 = omega arith in
       let e2 : (30 * h + t) % 5 ≡ t % 5 = omega arith in
       let e3 : 5 * i + t % 5 ≡ 30 * q + t = omega arith in
-      let e4 : entryOf n i ≡ i % 12 = choose-true (i % 12) (12 + (i - n)) (lt-ltb i n (omega arith)) in
-      half-data (entries p) h t ht ∙ digit-whole p (30 * h + t) hp (omega arith)
-      ∙ ap₂ (λ (x y : ℕ). digit (getD (entries p) x 0) y) (e1 ∙ sym e4) e2 ∙ entry-digit p n i (t % 5) hp (omega arith) (omega arith) ∙ ap (copies p n) e3
+      let c : digitAt (entries p) (30 * h + t) ≡ copies p n (30 * q + t) =
+      ap₂ (λ (x y : ℕ). digit (getD (entries p) x 0) y) e1 e2 ∙ data-digit p n i (t % 5) hp (omega arith) (omega arith) ∙ ap (copies p n) e3 in
+      half-data (entries p) h t ht ∙ omega (arith, c, data-once p n (30 * q + t) hp (omega arith))
 
   pub bits-sent : total (halfAt (entries p) h) 30 ≡ total (λ t. copies p n (30 * q + t)) 30
   bits-sent = total-cong (halfAt (entries p) h) (λ t. copies p n (30 * q + t)) 30 sent-as

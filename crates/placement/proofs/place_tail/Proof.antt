@@ -12,8 +12,9 @@ use Rattle.patterns.specs.Sent.{places}
 use Rattle.puncturing.specs.Entries.{entries}
 use Rattle.patterns.proofs.Totals.{total-more, total-mono}
 use Rattle.patterns.proofs.Groups.{copies-le}
+use Rattle.puncturing.proofs.Lanes.{tail-digit}
 use Rattle.placement.specs.Inside.{Placed}
-use Rattle.placement.proofs.Groups.{placed-more, tail-digit}
+use Rattle.placement.proofs.Groups.{placed-more}
 use Rattle.placement.proofs.place_tail.Statement.{statement}
 use Rattle.placement.proofs.place_tail.Tie as tie
 use Rattle.placement.proofs.place_tail.Reads as reads
