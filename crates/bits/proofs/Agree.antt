@@ -6,6 +6,9 @@ use borrow.Fn.World.{ArgsD, ResD}
 use borrow.Fn.Kinds.{endedOf}
 use denote.Triple.Clauses.{AtExit}
 use Rattle.ground.proofs.Outcome.{same}
+use Rattle.bits.proofs.byte as byte
+use Rattle.bits.proofs.byte.Kinds as byte-kinds
+use Rattle.bits.proofs.byte.Reads as byte-reads
 use Rattle.bits.proofs.bit as bit
 use Rattle.bits.proofs.bit.Kinds as bit-kinds
 use Rattle.bits.proofs.bit.Reads as bit-reads
@@ -15,6 +18,11 @@ use Rattle.bits.proofs.bit_from.Reads as bit-from-reads
 use Rattle.bits.proofs.field as field
 use Rattle.bits.proofs.field.Kinds as field-kinds
 use Rattle.bits.proofs.field.Reads as field-reads
+
+module _ (κs : Lfts 1) (a : ArgsD byte.signature κs) where
+  pub byte-agrees : (r r′ : ResD byte.signature κs) (s s′ : AtExit (endedOf 1 byte-kinds.ps byte-kinds.r) κs) →
+      byte-reads.Post κs a r s → byte-reads.Post κs a r′ s′ → r ≡ r′
+  byte-agrees r r′ s s′ p q = same p q
 
 module _ (κs : Lfts 1) (a : ArgsD bit.signature κs) where
   pub bit-agrees : (r r′ : ResD bit.signature κs) (s s′ : AtExit (endedOf 1 bit-kinds.ps bit-kinds.r) κs) →

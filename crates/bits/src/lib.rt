@@ -4,15 +4,22 @@ ghost use Prim.Native.Nat.{_+_, _-_, _/_, _%_, _^_, _<_};
 ghost use lib.ListN.{getD};
 ghost use Rattle.bits.specs.Places.{bitAt, fieldAt};
 
+// The byte at a place; a place past the end reads zero.
+pub fn byte(s: &[u8], i: usize) -> u8
+    ensures { λ r. ⌜ r ≡ getD (now (s .entry)) i 0 ⌝ }
+{
+    if i < s.len() {
+        return s[i];
+    }
+    0
+}
+
 // The bit k of the byte j, counted from the top; zero where there is no such byte.
 fn bit_of(s: &[u8], j: usize, k: usize) -> u8
     requires { ⌜ k < 8 ⌝ }
     ensures { λ r. ⌜ r ≡ getD (now (s .entry)) j 0 / 2 ^ (7 - k) % 2 ⌝ }
 {
-    if s.len() <= j {
-        return 0;
-    }
-    (s[j] >> (7 - k)) % 2
+    (byte(s, j) >> (7 - k)) % 2
 }
 
 // The bit i; a place past the end reads zero.

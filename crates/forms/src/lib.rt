@@ -15,9 +15,9 @@ pub fn check(sheet: &[u8]) -> Answer
     if headers::header_wrong(sheet, FORM1) {
         return Answer::Refused(ground::HEADER_WRONG);
     }
-    let p = headers::byte_of(sheet, 0);
-    let s = headers::byte_of(sheet, 1) as u16;
-    let d = headers::byte_of(sheet, 2) as u16;
+    let p = bits::byte(sheet, 0);
+    let s = bits::byte(sheet, 1) as u16;
+    let d = bits::byte(sheet, 2) as u16;
     let n = judge::record_fault(sheet, FORM1, p, s, d);
     if n != 0 {
         return Answer::Refused(n);

@@ -6,9 +6,6 @@ use borrow.Fn.World.{ArgsD, ResD}
 use borrow.Fn.Kinds.{endedOf}
 use denote.Triple.Clauses.{AtExit}
 use Rattle.ground.proofs.Outcome.{same}
-use Rattle.headers.proofs.byte_of as byte-of
-use Rattle.headers.proofs.byte_of.Kinds as byte-of-kinds
-use Rattle.headers.proofs.byte_of.Reads as byte-of-reads
 use Rattle.headers.proofs.header_of as header-of
 use Rattle.headers.proofs.header_of.Kinds as header-of-kinds
 use Rattle.headers.proofs.header_of.Reads as header-of-reads
@@ -20,11 +17,6 @@ module _ (κs : Lfts 0) (a : ArgsD header-of.signature κs) where
   pub header-of-agrees : (r r′ : ResD header-of.signature κs) (s s′ : AtExit (endedOf 0 header-of-kinds.ps header-of-kinds.r) κs) →
       header-of-reads.Post κs a r s → header-of-reads.Post κs a r′ s′ → r ≡ r′
   header-of-agrees r r′ s s′ p q = same p q
-
-module _ (κs : Lfts 1) (a : ArgsD byte-of.signature κs) where
-  pub byte-of-agrees : (r r′ : ResD byte-of.signature κs) (s s′ : AtExit (endedOf 1 byte-of-kinds.ps byte-of-kinds.r) κs) →
-      byte-of-reads.Post κs a r s → byte-of-reads.Post κs a r′ s′ → r ≡ r′
-  byte-of-agrees r r′ s s′ p q = same p q
 
 module _ (κs : Lfts 1) (a : ArgsD header-wrong.signature κs) where
   pub header-wrong-agrees : (r r′ : ResD header-wrong.signature κs) (s s′ : AtExit (endedOf 1 header-wrong-kinds.ps header-wrong-kinds.r) κs) →

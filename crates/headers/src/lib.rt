@@ -1,7 +1,6 @@
 // The header of a sheet (document 01, "Sheet"): written for counts that are given, and what it states, with its test.
 ghost use mathlib.Core.Path.{_≡_};
 ghost use Prim.Native.Nat.{_<_};
-ghost use lib.ListN.{getD};
 ghost use Rattle.description.specs.Sheet.{header};
 ghost use Rattle.description.specs.Header.{twoAt, headerFault};
 
@@ -38,22 +37,12 @@ pub fn header_of(h: u8, p: u8, s: u8, d: u8) -> [u8; 12]
     ]
 }
 
-// A byte of a sheet, and 0 past its end.
-pub fn byte_of(sheet: &[u8], i: usize) -> u8
-    ensures { λ r. ⌜ r ≡ getD (now (sheet .entry)) i 0 ⌝ }
-{
-    if i < sheet.len() {
-        return sheet[i];
-    }
-    0
-}
-
 // The number in two bytes of a sheet.
 fn two_at(sheet: &[u8], i: usize) -> usize
     requires { ⌜ i < 4096 ⌝ }
     ensures { λ r. ⌜ r ≡ twoAt (now (sheet .entry)) i ⌝ }
 {
-    byte_of(sheet, i) as usize * 256 + byte_of(sheet, i + 1) as usize
+    bits::byte(sheet, i) as usize * 256 + bits::byte(sheet, i + 1) as usize
 }
 
 // 12: whether a header of h bytes is wrong.
@@ -64,10 +53,10 @@ pub fn header_wrong(sheet: &[u8], h: u8) -> bool
     if sheet.len() < pipes {
         return true;
     }
-    let streams = pipes + PIPE * byte_of(sheet, 0) as usize;
-    let sections = streams + STREAM * byte_of(sheet, 1) as usize;
-    let end = sections + SECTION * byte_of(sheet, 2) as usize;
-    if byte_of(sheet, 3) != 0 {
+    let streams = pipes + PIPE * bits::byte(sheet, 0) as usize;
+    let sections = streams + STREAM * bits::byte(sheet, 1) as usize;
+    let end = sections + SECTION * bits::byte(sheet, 2) as usize;
+    if bits::byte(sheet, 3) != 0 {
         return true;
     }
     if two_at(sheet, 4) != pipes {

@@ -2,7 +2,7 @@
 ghost use mathlib.Core.Path.{_≡_};
 ghost use mathlib.Core.List.{_++_};
 ghost use Prim.Native.Nat.{_≤_};
-ghost use lib.ListN.{length, getD, drop};
+ghost use lib.ListN.{length, drop};
 ghost use Rattle.payload.specs.Word.{packetBytes, filled};
 ghost use Rattle.payload.specs.Answers.{writeRefusal};
 
@@ -35,16 +35,6 @@ pub fn refusal(kind: u32, packet: usize, word: usize) -> u8
     0
 }
 
-// The byte at a place; a place past the end reads zero.
-fn byte(s: &[u8], i: usize) -> u8
-    ensures { λ r. ⌜ r ≡ getD (now (s .entry)) i 0 ⌝ }
-{
-    if i < s.len() {
-        return s[i];
-    }
-    0
-}
-
 // The packet into the first 1,532 bytes, and zeros behind it.
 pub fn fill(packet: &[u8], word: &mut [u8])
     requires { ⌜ (length (now packet) ≤ 1532) × (length (now word) ≡ 1536) ⌝ }
@@ -52,7 +42,7 @@ pub fn fill(packet: &[u8], word: &mut [u8])
 {
     let mut i = 0;
     while i < PACKET {
-        word[i] = byte(packet, i);
+        word[i] = bits::byte(packet, i);
         i += 1;
     }
 }

@@ -9,7 +9,7 @@ use Rattle.forms.proofs.check.Statement.{statement}
 use Rattle.forms.proofs.check.Tie as tie
 use Rattle.forms.proofs.check.Reads as reads
 use Rattle.forms.proofs.check.Lts as lts
-use Rattle.headers.proofs.byte_of.Reads as byte-of-reads
+use Rattle.bits.proofs.byte.Reads as byte-reads
 use Rattle.headers.proofs.header_wrong.Reads as header-wrong-reads
 use Rattle.forms.proofs.judge.record_fault.Reads as record-fault-reads
 
@@ -23,17 +23,17 @@ header-wrong-requires c κs = search needs
 returns : tie.Need-returns
 returns c = (header-faulty (c .before .before .before .args .sheet .now) (sym (c .before .header-wrong .ensures) ∙ c .if1 .taken), bytes (c .before .before))
 
-byte-of-requires : tie.Need-byte-of-requires
-byte-of-requires c κs = search needs
+byte-requires : tie.Need-byte-requires
+byte-requires c κs = search needs
 
-byte-of-requires-2 : tie.Need-byte-of-requires-2
-byte-of-requires-2 c κs = search needs
+byte-requires-2 : tie.Need-byte-requires-2
+byte-requires-2 c κs = search needs
 
 cast-s : tie.Need-cast-s
 cast-s c = search needs
 
-byte-of-requires-3 : tie.Need-byte-of-requires-3
-byte-of-requires-3 c κs = search needs
+byte-requires-3 : tie.Need-byte-requires-3
+byte-requires-3 c κs = search needs
 
 cast-d : tie.Need-cast-d
 cast-d c = search needs
@@ -45,8 +45,8 @@ returns-2 : tie.Need-returns-2
 returns-2 c =
     let b = c .before .before .before .before in
     let h = b .before .before in (
-      faulty (h .before .before .args .sheet .now) (sym (h .header-wrong .ensures) ∙ b .before .if1 .left) (b .byte-of .ensures) (c .before .before .before .byte-of2 .ensures)
-          (c .before .before .byte-of3 .ensures) (c .before .record-fault .ensures) (c .if2 .taken),
+      faulty (h .before .before .args .sheet .now) (sym (h .header-wrong .ensures) ∙ b .before .if1 .left) (b .byte .ensures) (c .before .before .before .byte2 .ensures)
+          (c .before .before .byte3 .ensures) (c .before .record-fault .ensures) (c .if2 .taken),
       bytes (h .before),
     )
 
@@ -54,8 +54,8 @@ returns-3 : tie.Need-returns-3
 returns-3 c =
     let b = c .before .before .before .before in
     let h = b .before .before in (
-      sound (h .before .before .args .sheet .now) (sym (h .header-wrong .ensures) ∙ b .before .if1 .left) (b .byte-of .ensures) (c .before .before .before .byte-of2 .ensures)
-          (c .before .before .byte-of3 .ensures) (c .before .record-fault .ensures) (c .if2 .left),
+      sound (h .before .before .args .sheet .now) (sym (h .header-wrong .ensures) ∙ b .before .if1 .left) (b .byte .ensures) (c .before .before .before .byte2 .ensures)
+          (c .before .before .byte3 .ensures) (c .before .record-fault .ensures) (c .if2 .left),
       bytes (h .before),
     )
 
@@ -65,10 +65,10 @@ check-spec =
     (tie.spec
     header-wrong-requires
     returns
-    byte-of-requires
-    byte-of-requires-2
+    byte-requires
+    byte-requires-2
     cast-s
-    byte-of-requires-3
+    byte-requires-3
     cast-d
     record-fault-requires
     returns-2

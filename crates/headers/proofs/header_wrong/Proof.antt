@@ -9,7 +9,7 @@ use Rattle.headers.proofs.header_wrong.Statement.{statement}
 use Rattle.headers.proofs.header_wrong.Tie as tie
 use Rattle.headers.proofs.header_wrong.Reads as reads
 use Rattle.headers.proofs.header_wrong.Lts as lts
-use Rattle.headers.proofs.byte_of.Reads as byte-of-reads
+use Rattle.bits.proofs.byte.Reads as byte-reads
 use Rattle.headers.proofs.two_at.Reads as two-at-reads
 
 -- ---- the places of the tests
@@ -17,38 +17,38 @@ use Rattle.headers.proofs.two_at.Reads as two-at-reads
 abbrev sheet-1 : tie.Else1 → List ℕ
 sheet-1 c = c .before .before .args .sheet .now
 
-abbrev sheet : tie.After-byte-of3 → List ℕ
+abbrev sheet : tie.After-byte3 → List ℕ
 sheet c = sheet-1 (c .before .before .before)
 
-abbrev bytes : tie.After-byte-of3 → ℕ
+abbrev bytes : tie.After-byte3 → ℕ
 bytes c = c .before .before .before .before .before .args .h
 
 -- where the counts have been read, from the places of the third test to the sixth
-abbrev from-3 : tie.After-two-at → tie.After-byte-of3
+abbrev from-3 : tie.After-two-at → tie.After-byte3
 from-3 c = c .before .before .before
 
-abbrev from-4 : tie.After-two-at2 → tie.After-byte-of3
+abbrev from-4 : tie.After-two-at2 → tie.After-byte3
 from-4 c = from-3 (c .before .before)
 
-abbrev from-5 : tie.After-two-at3 → tie.After-byte-of3
+abbrev from-5 : tie.After-two-at3 → tie.After-byte3
 from-5 c = from-4 (c .before .before)
 
-abbrev from-6 : tie.After-two-at4 → tie.After-byte-of3
+abbrev from-6 : tie.After-two-at4 → tie.After-byte3
 from-6 c = from-5 (c .before .before)
 
 -- ---- the tests of refusal 12
 -- k comparisons are passed, and x is what was read for the next one
-abbrev Test : tie.After-byte-of3 → ℕ → ℕ → Type 0
+abbrev Test : tie.After-byte3 → ℕ → ℕ → Type 0
 Test c k x =
-    Left (bytes c) (sheet c) (asked x (drop k (compared (bytes c) (sheet c) (c .before .before .byte-of .result) (c .before .byte-of2 .result) (c .byte-of3 .result))))
+    Left (bytes c) (sheet c) (asked x (drop k (compared (bytes c) (sheet c) (c .before .before .byte .result) (c .before .byte2 .result) (c .byte3 .result))))
 
 -- passed: the length. Next: the fourth byte
-test-2 : (c : tie.After-byte-of4) → Test (c .before) 0 (c .byte-of4 .result)
+test-2 : (c : tie.After-byte4) → Test (c .before) 0 (c .byte4 .result)
 test-2 c =
     let two = c .before .before in
     let one = two .before in
-    let all = long (bytes (c .before)) _ (one .before .if1 .left) (one .byte-of .ensures) (two .byte-of2 .ensures) (c .before .byte-of3 .ensures) in
-    read all (c .byte-of4 .ensures)
+    let all = long (bytes (c .before)) _ (one .before .if1 .left) (one .byte .ensures) (two .byte2 .ensures) (c .before .byte3 .ensures) in
+    read all (c .byte4 .ensures)
 
 -- passed: the fourth byte too. Next: where the pipes start
 test-3 : (c : tie.After-two-at) → Test (from-3 c) 1 (c .two-at .result)
@@ -73,8 +73,8 @@ add-pipes c = search needs
 returns : tie.Need-returns
 returns c = sym (short (c .before .before .args .h) _ (c .if1 .taken))
 
-byte-of-requires : tie.Need-byte-of-requires
-byte-of-requires c κs = search needs
+byte-requires : tie.Need-byte-requires
+byte-requires c κs = search needs
 
 cast-streams : tie.Need-cast-streams
 cast-streams c = search needs
@@ -85,8 +85,8 @@ mul-streams c = search needs
 add-streams : tie.Need-add-streams
 add-streams c = search needs
 
-byte-of-requires-2 : tie.Need-byte-of-requires-2
-byte-of-requires-2 c κs = search needs
+byte-requires-2 : tie.Need-byte-requires-2
+byte-requires-2 c κs = search needs
 
 cast-sections : tie.Need-cast-sections
 cast-sections c = search needs
@@ -97,8 +97,8 @@ mul-sections c = search needs
 add-sections : tie.Need-add-sections
 add-sections c = search needs
 
-byte-of-requires-3 : tie.Need-byte-of-requires-3
-byte-of-requires-3 c κs = search needs
+byte-requires-3 : tie.Need-byte-requires-3
+byte-requires-3 c κs = search needs
 
 cast-end : tie.Need-cast-end
 cast-end c = search needs
@@ -109,8 +109,8 @@ mul-end c = search needs
 add-end : tie.Need-add-end
 add-end c = search needs
 
-byte-of-requires-4 : tie.Need-byte-of-requires-4
-byte-of-requires-4 c κs = search needs
+byte-requires-4 : tie.Need-byte-requires-4
+byte-requires-4 c κs = search needs
 
 returns-2 : tie.Need-returns-2
 returns-2 c = sym (off (test-2 (c .before)) (c .if2 .taken))
@@ -148,19 +148,19 @@ header-wrong-spec =
     (tie.spec
     add-pipes
     returns
-    byte-of-requires
+    byte-requires
     cast-streams
     mul-streams
     add-streams
-    byte-of-requires-2
+    byte-requires-2
     cast-sections
     mul-sections
     add-sections
-    byte-of-requires-3
+    byte-requires-3
     cast-end
     mul-end
     add-end
-    byte-of-requires-4
+    byte-requires-4
     returns-2
     two-at-requires
     returns-3

@@ -12,7 +12,7 @@ use Rattle.payload.proofs.packet.fill.Statement.{statement}
 use Rattle.payload.proofs.packet.fill.Tie as tie
 use Rattle.payload.proofs.packet.fill.Reads as reads
 use Rattle.payload.proofs.packet.fill.Lts as lts
-use Rattle.payload.proofs.packet.byte.Reads as byte-reads
+use Rattle.bits.proofs.byte.Reads as byte-reads
 
 abbrev Inv-loop : tie.InvT-loop
 Inv-loop packet word₀ i₀ word i = (i ≤ 1532) × (word ≡ over word₀ (filled packet) i)

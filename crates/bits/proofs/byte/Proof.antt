@@ -1,12 +1,12 @@
--- `payload::packet::byte` meets its contract. Assumes nothing.
+-- `bits::byte` meets its contract. Assumes nothing.
 use mathlib.Core.Path.{sym}
 use native.Mathlib.Omega.{arith}
 use lib.ListN.{List·getD-eq-default}
 use borrow.Author.Needs.{needs}
-use Rattle.payload.proofs.packet.byte.Statement.{statement}
-use Rattle.payload.proofs.packet.byte.Tie as tie
-use Rattle.payload.proofs.packet.byte.Reads as reads
-use Rattle.payload.proofs.packet.byte.Lts as lts
+use Rattle.bits.proofs.byte.Statement.{statement}
+use Rattle.bits.proofs.byte.Tie as tie
+use Rattle.bits.proofs.byte.Reads as reads
+use Rattle.bits.proofs.byte.Lts as lts
 
 shared-slice-read-result : tie.Need-shared-slice-read-result
 shared-slice-read-result c = search needs
@@ -15,7 +15,7 @@ returns : tie.Need-returns
 returns c = search needs
 
 returns-2 : tie.Need-returns-2
-returns-2 c = sym (List·getD-eq-default (c .before .args .s .now) 0 (omega arith))
+returns-2 c = sym (List·getD-eq-default (c .before .args .s .now) 0 (omega (arith, c .if1 .left)))
 
 pub byte-spec : {M : Type 1} → statement M
 byte-spec = tie.close (tie.spec shared-slice-read-result returns returns-2)
