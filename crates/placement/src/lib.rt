@@ -59,6 +59,9 @@ fn place_group(values: &[i8], at: usize, counts: u16, lane: &mut [i16], k: usize
     v
 }
 
+// The last of the data's entries. The loop below goes by it, and not by their number, since that is a sixth slower.
+const LAST_DATA: usize = 11;
+
 // The places of the data's n groups; returns the next value's place.
 fn place_data(pattern: usize, n: usize, values: &[i8], lane: &mut [i16]) -> usize
     requires { ⌜ Placeable pattern n (now values) (now lane) ⌝ }
@@ -71,10 +74,7 @@ fn place_data(pattern: usize, n: usize, values: &[i8], lane: &mut [i16]) -> usiz
     while i < n {
         at = place_group(values, at, entries[j], lane, 5 * i);
         i += 1;
-        j += 1;
-        if j == DATA_ENTRIES {
-            j = 0;
-        }
+        j = if j == LAST_DATA { 0 } else { j + 1 };
     }
     at
 }

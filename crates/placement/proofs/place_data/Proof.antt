@@ -60,7 +60,7 @@ add-i : tie.Need-add-i Inv-loop μ-loop
 add-i c = omega (arith, c .before .before .before .loop-test .taken, c .before .before .before .before .before .before .pre .most)
 
 add-j : tie.Need-add-j Inv-loop μ-loop
-add-j c = omega (arith, c .before .before .before .before .loop .inv .1)
+add-j c = omega (arith, c .before .before .before .before .before .loop .inv .1)
 
 -- one group more, whatever the next entry is
 turn : (c : tie.In-loop Inv-loop μ-loop) {r : ℕ} {m : List ℤ}
