@@ -160,7 +160,9 @@ fn a_codeword_of_just_that_length_is_accepted() {
     let codewords = codewords();
     assert_eq!(codewords.len(), 28);
     let signalling = (0, 96, figure("OPL_SIGNALLING_CODEWORD_BYTES"));
-    let payload = codewords.iter().map(|(&pattern, &bytes)| (pattern, 1_536, bytes));
+    let payload = codewords
+        .iter()
+        .map(|(&pattern, &bytes)| (pattern, 1_536, bytes));
     for (pattern, n, bytes) in payload.chain([signalling]) {
         let mut at = |length| encoded(&mut rng, pattern, n, length);
         let found = [bytes - 1, bytes, bytes + 1].map(&mut at);
