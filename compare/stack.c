@@ -82,13 +82,6 @@ static uint8_t measure(int which, struct arguments a)
     return refusal;
 }
 
-static void measure_preamble(void)
-{
-    static uint8_t out[OPL_PREAMBLE_BYTES];
-    measure(PREAMBLE, (struct arguments){.buffer = {{out, sizeof out}}});
-    measure(PREAMBLE, (struct arguments){.buffer = {{out, sizeof out - 1}}});
-}
-
 static void flip(uint8_t *bytes, size_t bit)
 {
     bytes[bit / 8] ^= (uint8_t)(0x80 >> bit % 8);
@@ -97,6 +90,38 @@ static void flip(uint8_t *bytes, size_t bit)
 static int bit_of(const uint8_t *bytes, size_t bit)
 {
     return bytes[bit / 8] >> (7 - bit % 8) & 1;
+}
+
+/* Has the form of 32 bytes told, which is known, and at each wrong length refused. */
+static void measure_form(uint8_t *bytes, enum opl_form known)
+{
+    static uint8_t form[1];
+    struct arguments a = {.buffer = {{bytes, OPL_PREAMBLE_BYTES}, {form, sizeof form}}};
+    if (measure(PREAMBLE_FORM, a) != OPL_ACCEPTED || form[0] != known)
+        fail("another form is told than bytes have");
+    for (int wrong = 0; wrong < 2; wrong++) {
+        a.buffer[wrong].n--;
+        measure(PREAMBLE_FORM, a);
+        a.buffer[wrong].n++;
+    }
+}
+
+/* Has both preambles written, and refused; and the form told of each, and of each with a bit flipped. */
+static void measure_preamble(void)
+{
+    static uint8_t out[OPL_PREAMBLE_BYTES];
+    for (uint32_t inverted = 0; inverted < 2; inverted++) {
+        struct arguments a = {{inverted}, {{out, sizeof out}}};
+        measure(PREAMBLE, a);
+        a.buffer[0].n--;
+        measure(PREAMBLE, a);
+        measure_form(out, inverted ? OPL_INVERTED : OPL_UPRIGHT);
+        for (size_t i = 0; i < 8 * sizeof out; i++) {
+            flip(out, i);
+            measure_form(out, OPL_NEITHER);
+            flip(out, i);
+        }
+    }
 }
 
 /* A CRC (annex B): what it is of, and after it, `width` bits, the CRC itself. */

@@ -8,6 +8,7 @@
  *
  *   version TEXT               OPL_VERSION
  *   empty NUMBER               the refusal number of a call that is lent OPL_EMPTY
+ *   form NUMBER NUMBER         a number of opl_form, and what opl_preamble_form says of bytes that are so
  *   refusal NUMBER TEXT        opl_refusal_text, of every number that a byte has
  *   codeword PATTERN BYTES     opl_codeword_bytes, where it is not 0
  *   sheet BYTES                opl_sheet_bytes, of each header
@@ -32,6 +33,24 @@ static void say_empty(void)
     printf("empty %d\n", opl_payload_write(0, 9, none, 0, word, sizeof word));
     printf("empty %d\n", opl_signalling_write(OPL_EMPTY, 0, OPL_EMPTY, 0));
     printf("empty %d\n", opl_place(0, EMPTY_AS(const int8_t *), 0, EMPTY_AS(int16_t *), 0));
+}
+
+static void say_form(enum opl_form named, const uint8_t *bytes)
+{
+    static uint8_t told[1];
+    if (opl_preamble_form(bytes, OPL_PREAMBLE_BYTES, told, sizeof told) == OPL_ACCEPTED)
+        printf("form %d %d\n", named, told[0]);
+}
+
+/* Of bytes that nothing is written to yet, and of both preambles. */
+static void say_forms(void)
+{
+    static uint8_t bytes[OPL_PREAMBLE_BYTES];
+    say_form(OPL_NEITHER, bytes);
+    opl_preamble(0, bytes, sizeof bytes);
+    say_form(OPL_UPRIGHT, bytes);
+    opl_preamble(1, bytes, sizeof bytes);
+    say_form(OPL_INVERTED, bytes);
 }
 
 static void say_refusals(void)
@@ -77,6 +96,7 @@ int main(int words, char **word)
     }
     printf("version %s\n", OPL_VERSION);
     say_empty();
+    say_forms();
     say_refusals();
     say_all_codewords();
     say_sheets(headers);

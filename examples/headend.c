@@ -1,18 +1,19 @@
 /*
- * A head-end in small: it plays one frame of a sheet, as a transmitter's C program does with the library,
- * and reads the frame back, as test equipment does. `make demo` builds it and runs it.
+ * A head-end in small: it plays some frames of a sheet, as a transmitter's C program does with the library,
+ * finds them again in its own file by their preambles and reads one back, as a receiver and test equipment do.
+ * `make demo` builds it and runs it.
  *
- *   headend SHEET PAYLOAD FRAME
+ *   headend SHEET PAYLOAD FRAMES
  *
- *   SHEET     the file of the sheet that the frame is made of; -: standard input
+ *   SHEET     the file of the first frame's sheet; -: standard input
  *   PAYLOAD   the file that fills the payload words, 1,532 bytes each, with zeros after its end
- *   FRAME     the file that the frame is written to: the preamble and the signalling codeword, then the
- *             codewords of each pipe in use, pipe by pipe and slot by slot
+ *   FRAMES    the file that the frames are written to, each as its preamble and signalling codeword, then
+ *             the codewords of each pipe in use, pipe by pipe and slot by slot
  *
  * It exits 0 only if every call answered as expected and gave what was expected, so not if the sheet is
- * refused. The frame lacks what the library does not have yet: mixer, dispersers and collector (clauses
- * 4.5 to 4.8) come with request 2026-06. The sheet is taken for that of this very frame, not for one that
- * Reconfig_Flag or Reschedule_Flag announces.
+ * refused. The frames lack what the library does not have yet: mixer, dispersers and collector (clauses
+ * 4.5 to 4.8) come with request 2026-06. The sheet is taken for that of the first frame itself, not for one
+ * that Reconfig_Flag or Reschedule_Flag announces.
  */
 #include <errno.h>
 #include <stdio.h>
@@ -35,20 +36,101 @@ enum { TRANSPARENT = 1 };
 /* The slots of a pipe whose streams are printed. */
 enum { SLOTS_SHOWN = 16 };
 
-/* A frame in the making: its files, and what was written and read. */
-struct frame {
+/* The frames that are played: each preamble comes twice. */
+enum { FRAMES = 4 };
+
+/* The frame that is read back, counted from 0: the first that a receiver has whole if it is late for one. */
+enum { READ_BACK = 1 };
+
+/* Frames in the making: their files, and what was written and read. */
+struct frames {
     const char *path, *payload_path;
     FILE *file, *payload;
-    size_t bytes;                     /* of payload codewords */
-    size_t words;                     /* payload words in these */
-    size_t sent;                      /* bytes of the payload file in these */
-    size_t filled;                    /* words that zeros fill up */
-    uint8_t first[OPL_PAYLOAD_BYTES]; /* the payload of the first word */
+    size_t number;                       /* of the frame at hand, counted from 0 */
+    uint8_t word[OPL_SIGNALLING_BYTES];  /* its signalling word */
+    uint8_t start[START_BYTES];          /* its preamble and signalling codeword */
+    size_t bytes;                        /* of its payload codewords */
+    size_t words;                        /* payload words in all frames */
+    size_t sent;                         /* bytes of the payload file in these */
+    size_t filled;                       /* words that zeros fill up */
+    struct sent_frame read_back;         /* what is to be found in the frame that is read back */
 };
 
-static bool put(const struct frame *frame, const uint8_t *bytes, size_t n)
+static bool put(const struct frames *frames, const uint8_t *bytes, size_t n)
 {
-    return fwrite(bytes, 1, n, frame->file) == n || fail("%s: %s", frame->path, strerror(errno));
+    return fwrite(bytes, 1, n, frames->file) == n || fail("%s: %s", frames->path, strerror(errno));
+}
+
+/*
+ * Which preamble is due: frames have it upright and inverted in turn (clause 4.10.1.2). Frame_Index does not
+ * tell, as a day may have an odd number of frames; so the frames that are sent are counted.
+ */
+static bool is_inverted(const struct frames *frames)
+{
+    return frames->number % 2 != 0;
+}
+
+/* Writes what each frame starts with: the preamble, then the codeword of the signalling word. */
+static bool put_start(struct frames *frames)
+{
+    uint8_t *codeword = frames->start + OPL_PREAMBLE_BYTES;
+    return accepted(opl_preamble(is_inverted(frames), frames->start, OPL_PREAMBLE_BYTES), "opl_preamble",
+                    "32 bytes") &&
+           accepted(opl_encode(0, frames->word, OPL_SIGNALLING_BYTES, codeword, OPL_SIGNALLING_CODEWORD_BYTES),
+                    "opl_encode", "the signalling word") &&
+           put(frames, frames->start, START_BYTES);
+}
+
+/* Takes the next bytes of the payload file, and zeros after its end. */
+static bool take_payload(struct frames *frames, uint8_t *payload)
+{
+    size_t n = fread(payload, 1, OPL_PAYLOAD_BYTES, frames->payload);
+    if (ferror(frames->payload))
+        return fail("%s: %s", frames->payload_path, strerror(errno));
+    memset(payload + n, 0, OPL_PAYLOAD_BYTES - n);
+    if (frames->number == READ_BACK && frames->bytes == 0)
+        memcpy(frames->read_back.payload, payload, OPL_PAYLOAD_BYTES);
+    frames->words++;
+    frames->sent += n;
+    frames->filled += n < OPL_PAYLOAD_BYTES;
+    return true;
+}
+
+/* Writes the codeword of one slot, which carries a payload word of the stream that has the slot. */
+static bool put_codeword(struct frames *frames, const struct pipe *pipe, size_t slot)
+{
+    uint8_t payload[OPL_PAYLOAD_BYTES], word[OPL_PAYLOAD_WORD_BYTES], codeword[OPL_PAYLOAD_CODEWORD_MOST];
+    uint8_t id = slot_stream(pipe, slot);
+    size_t m = opl_codeword_bytes(pipe->pattern);
+    if (!take_payload(frames, payload))
+        return false;
+    frames->bytes += m;
+    return accepted(opl_payload_write(TRANSPARENT, id, payload, sizeof payload, word, sizeof word),
+                    "opl_payload_write", "a payload") &&
+           accepted(opl_encode(pipe->pattern, word, sizeof word, codeword, m), "opl_encode", "a payload word") &&
+           put(frames, codeword, m);
+}
+
+/* Writes the codewords of a pipe. That of the tail pipe is written whole: the collector cuts it. */
+static bool put_pipe(struct frames *frames, const struct pipe *pipe)
+{
+    size_t slots = pipe_codewords(pipe);
+    for (size_t slot = 0; slot < slots; slot++)
+        if (!put_codeword(frames, pipe, slot))
+            return false;
+    return true;
+}
+
+/* Writes the codewords of all pipes. */
+static bool put_pipes(struct frames *frames, const uint8_t *sheet)
+{
+    struct pipe pipes[PIPES_MOST];
+    size_t n = sheet_pipes(sheet, pipes);
+    frames->bytes = 0;
+    for (size_t i = 0; i < n; i++)
+        if (!put_pipe(frames, &pipes[i]))
+            return false;
+    return true;
 }
 
 /* Prints a line: something's name, its length and its first bytes; the caller ends it. */
@@ -59,62 +141,16 @@ static void say_part(const char *name, const uint8_t *bytes, size_t n)
     printf("..  ");
 }
 
-/* Writes what each frame starts with: the preamble, then the codeword of the signalling word. */
-static bool put_start(struct frame *frame, const uint8_t *word)
+static void say_start(const struct frames *frames)
 {
-    uint8_t start[START_BYTES], *codeword = start + OPL_PREAMBLE_BYTES;
-    if (!accepted(opl_preamble(start, OPL_PREAMBLE_BYTES), "opl_preamble", "32 bytes") ||
-        !accepted(opl_encode(0, word, OPL_SIGNALLING_BYTES, codeword, OPL_SIGNALLING_CODEWORD_BYTES),
-                  "opl_encode", "the signalling word") ||
-        !put(frame, start, sizeof start))
-        return false;
-    say_part("signalling word", word, OPL_SIGNALLING_BYTES);
+    say_part("signalling word", frames->word, OPL_SIGNALLING_BYTES);
     printf("made of the sheet\n");
-    say_part("its codeword", codeword, OPL_SIGNALLING_CODEWORD_BYTES);
+    say_part("its codeword", frames->start + OPL_PREAMBLE_BYTES, OPL_SIGNALLING_CODEWORD_BYTES);
     printf("not mixed yet (request 2026-06)\n");
-    say_part("preamble", start, OPL_PREAMBLE_BYTES);
-    printf("\"%.28s\"\n", (const char *)start);
-    printf("  %-19s  %5zu bytes  %d capacity units: preamble and codeword\n\n", "start of the frame",
-           sizeof start, START_BYTES / UNIT_BYTES);
-    return true;
-}
-
-/* Takes the next bytes of the payload file, and zeros after its end. */
-static bool take_payload(struct frame *frame, uint8_t *payload)
-{
-    size_t n = fread(payload, 1, OPL_PAYLOAD_BYTES, frame->payload);
-    if (ferror(frame->payload))
-        return fail("%s: %s", frame->payload_path, strerror(errno));
-    memset(payload + n, 0, OPL_PAYLOAD_BYTES - n);
-    if (frame->words++ == 0)
-        memcpy(frame->first, payload, OPL_PAYLOAD_BYTES);
-    frame->sent += n;
-    frame->filled += n < OPL_PAYLOAD_BYTES;
-    return true;
-}
-
-/* Writes the codeword of one slot, which carries a payload word of the stream that has the slot. */
-static bool put_codeword(struct frame *frame, const struct pipe *pipe, size_t slot)
-{
-    uint8_t payload[OPL_PAYLOAD_BYTES], word[OPL_PAYLOAD_WORD_BYTES], codeword[OPL_PAYLOAD_CODEWORD_MOST];
-    uint8_t id = slot_stream(pipe, slot);
-    size_t m = opl_codeword_bytes(pipe->pattern);
-    frame->bytes += m;
-    return take_payload(frame, payload) &&
-           accepted(opl_payload_write(TRANSPARENT, id, payload, sizeof payload, word, sizeof word),
-                    "opl_payload_write", "a payload") &&
-           accepted(opl_encode(pipe->pattern, word, sizeof word, codeword, m), "opl_encode", "a payload word") &&
-           put(frame, codeword, m);
-}
-
-/* Writes the codewords of a pipe. That of the tail pipe is written whole: the collector cuts it. */
-static bool put_pipe(struct frame *frame, const struct pipe *pipe)
-{
-    size_t slots = pipe_codewords(pipe);
-    for (size_t slot = 0; slot < slots; slot++)
-        if (!put_codeword(frame, pipe, slot))
-            return false;
-    return true;
+    say_part("preamble", frames->start, OPL_PREAMBLE_BYTES);
+    printf("\"%.28s\"\n", (const char *)frames->start);
+    printf("  %-19s  %5d bytes  %d capacity units: preamble and codeword\n\n", "start of the frame", START_BYTES,
+           START_BYTES / UNIT_BYTES);
 }
 
 /* Prints the streams that have a pipe's slots, and that the tail pipe's codeword is yet to be cut. */
@@ -150,31 +186,78 @@ static void say_pipe(const struct pipe *pipe, size_t number)
     printf("\n");
 }
 
-/* Writes the codewords of all pipes, and prints the table of them. */
-static bool put_pipes(struct frame *frame, const uint8_t *sheet)
+/* Prints the table of all pipes. */
+static void say_pipes(const uint8_t *sheet)
 {
     struct pipe pipes[PIPES_MOST];
     size_t n = sheet_pipes(sheet, pipes);
     printf("  pipe  pattern  width in units  codewords  bytes each  streams in slot order\n");
-    for (size_t i = 0; i < n; i++) {
-        if (!put_pipe(frame, &pipes[i]))
-            return false;
+    for (size_t i = 0; i < n; i++)
         say_pipe(&pipes[i], i + 1);
-    }
+}
+
+/* Prints what is in the first frame. The others have the same, with what counts counted on. */
+static void say_first(const struct frames *frames, const uint8_t *sheet)
+{
+    printf("\nthe first frame\n");
+    say_start(frames);
+    say_pipes(sheet);
+    printf("\nthe frames, written to %s\n", frames->path);
+    printf("  Frame_Index  %-36s  %9s\n", "preamble", "bytes");
+}
+
+/* Prints the frame's line of the table. */
+static void say_frame(const struct frames *frames, const uint8_t *sheet)
+{
+    printf("  %11u  %-8s  ", sheet_frame_index(sheet), is_inverted(frames) ? "inverted" : "upright");
+    say_hex(frames->start, 8);
+    printf("..  %9zu\n", START_BYTES + frames->bytes);
+}
+
+static void say_sums(const struct frames *frames)
+{
+    const char *part = fgetc(frames->payload) == EOF ? "all" : "the first";
+    if (frames->words == 0)
+        printf("  no pipe is sent");
+    else
+        printf("  payload: %zu words of type 1 with %s %zu bytes of %s", frames->words, part, frames->sent,
+               frames->payload_path);
+    if (frames->filled != 0)
+        printf("; zeros fill up %zu words", frames->filled);
+    printf("\n");
+}
+
+/* Plays one frame of a sheet. */
+static bool play_frame(struct frames *frames, const uint8_t *sheet)
+{
+    if (!put_start(frames) || !put_pipes(frames, sheet))
+        return false;
+    if (frames->number == 0)
+        say_first(frames, sheet);
+    say_frame(frames, sheet);
+    if (frames->number == READ_BACK)
+        memcpy(frames->read_back.sheet, sheet, opl_sheet_bytes(sheet));
     return true;
 }
 
-static void say_sums(const struct frame *frame)
+/* Goes on to the next frame: its sheet, and the signalling word of that. */
+static bool next_frame(struct frames *frames, uint8_t *sheet)
 {
-    const char *part = fgetc(frame->payload) == EOF ? "all" : "the first";
-    printf("\n  %-19s  %5zu bytes  ", "payload codewords", frame->bytes);
-    if (frame->words == 0)
-        printf("no pipe is sent");
-    else
-        printf("%zu words of type 1: %s %zu bytes of %s", frame->words, part, frame->sent, frame->payload_path);
-    if (frame->filled != 0)
-        printf("; zeros fill up %zu words", frame->filled);
-    printf("\n  %-19s  %5zu bytes\n", "the frame", START_BYTES + frame->bytes);
+    sheet_next(sheet);
+    frames->number++;
+    return accepted(opl_signalling_write(sheet, opl_sheet_bytes(sheet), frames->word, sizeof frames->word),
+                    "opl_signalling_write", "the next frame's sheet");
+}
+
+/* Plays all frames. The sheet and the signalling word are the first's, and become the last's. */
+static bool play_frames(struct frames *frames, uint8_t *sheet)
+{
+    bool ok = play_frame(frames, sheet);
+    while (ok && frames->number + 1 < FRAMES)
+        ok = next_frame(frames, sheet) && play_frame(frames, sheet);
+    if (ok)
+        say_sums(frames);
+    return ok;
 }
 
 static FILE *opened(const char *path, const char *mode)
@@ -185,40 +268,45 @@ static FILE *opened(const char *path, const char *mode)
     return file;
 }
 
-/* Writes the frame of an accepted sheet and its signalling word. */
-static bool play(struct frame *frame, const uint8_t *sheet, const uint8_t *word)
+/* Writes the file of the frames that begin with an accepted sheet. */
+static bool play(struct frames *frames, uint8_t *sheet)
 {
-    frame->payload = opened(frame->payload_path, "rb");
-    if (frame->payload == NULL)
+    frames->payload = opened(frames->payload_path, "rb");
+    if (frames->payload == NULL)
         return false;
-    frame->file = opened(frame->path, "wb");
-    if (frame->file == NULL) {
-        fclose(frame->payload);
+    frames->file = opened(frames->path, "wb");
+    if (frames->file == NULL) {
+        fclose(frames->payload);
         return false;
     }
-    printf("\nthe frame, written to %s\n", frame->path);
-    bool ok = put_start(frame, word) && put_pipes(frame, sheet);
-    if (ok)
-        say_sums(frame);
-    fclose(frame->payload);
-    if (fclose(frame->file) != 0 && ok)
-        ok = fail("%s: %s", frame->path, strerror(errno));
+    bool ok = play_frames(frames, sheet);
+    fclose(frames->payload);
+    if (fclose(frames->file) != 0 && ok)
+        ok = fail("%s: %s", frames->path, strerror(errno));
     return ok;
+}
+
+/* Finds the frames again, and reads one. */
+static bool read_frames(const struct frames *frames)
+{
+    struct recording recording = {frames->path, FRAMES, START_BYTES + frames->bytes};
+    return read_back(&recording, READ_BACK, &frames->read_back);
 }
 
 int main(int count, char **words)
 {
     if (count != 4) {
-        fail("usage: headend SHEET PAYLOAD FRAME");
+        fail("usage: headend SHEET PAYLOAD FRAMES");
         return EXIT_FAILURE;
     }
     const char *sheet_path = strcmp(words[1], "-") == 0 ? NULL : words[1];
-    struct frame frame = {.payload_path = words[2], .path = words[3]};
-    uint8_t sheet[SHEET_BYTES], word[OPL_SIGNALLING_BYTES];
+    struct frames frames = {.payload_path = words[2], .path = words[3]};
+    uint8_t sheet[SHEET_BYTES];
     size_t n;
     bool ok = load(sheet_path, sheet, sizeof sheet, &n) &&
-              accepted(opl_signalling_write(sheet, n, word, sizeof word), "opl_signalling_write", words[1]) &&
-              play(&frame, sheet, word) && read_back(frame.path, sheet, n, frame.first);
+              accepted(opl_signalling_write(sheet, n, frames.word, sizeof frames.word), "opl_signalling_write",
+                       words[1]) &&
+              play(&frames, sheet) && read_frames(&frames);
     if (fflush(stdout) != 0 || ferror(stdout))
         ok = fail("standard output: %s", strerror(errno));
     return ok ? EXIT_SUCCESS : EXIT_FAILURE;

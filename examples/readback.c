@@ -1,11 +1,13 @@
 #include "readback.h"
 
 #include <stdio.h>
+#include <stdlib.h>
 #include <string.h>
 
 #include "opl_text.h"
 #include "say.h"
 #include "sheet.h"
+#include "starts.h"
 
 /* A lane is made of groups of five places; the six of the tail follow those of the infoword's bits. */
 enum { GROUP = 5, TAIL_GROUPS = 6 };
@@ -52,9 +54,10 @@ static size_t place(const char *name, unsigned pattern, const uint8_t *codeword,
 }
 
 /* Reads the signalling word: back becomes its sheet, and stays that while a damaged copy is refused. */
-static bool read_signalling(const uint8_t *codeword, const uint8_t *sheet, size_t n, uint8_t *back)
+static bool read_signalling(const uint8_t *codeword, const uint8_t *sheet, uint8_t *back)
 {
     uint8_t word[OPL_SIGNALLING_BYTES];
+    size_t n = opl_sheet_bytes(sheet);
     if (place("signalling codeword", 0, codeword, OPL_SIGNALLING_CODEWORD_BYTES, word, sizeof word) == 0 ||
         !accepted(opl_signalling_read(word, sizeof word, back, OPL_SHEET_ROOM), "opl_signalling_read",
                   "the signalling word"))
@@ -101,33 +104,63 @@ static const struct pipe *first_sent(const uint8_t *sheet, struct pipe pipes[PIP
     return NULL;
 }
 
+/* Shows that a preamble with one bit off is none. */
+static bool damage_preamble(const uint8_t *preamble)
+{
+    uint8_t damaged[OPL_PREAMBLE_BYTES], form = OPL_UPRIGHT;
+    memcpy(damaged, preamble, sizeof damaged);
+    damaged[12] ^= 0x10;
+    if (!accepted(opl_preamble_form(damaged, sizeof damaged, &form, 1), "opl_preamble_form", "32 bytes"))
+        return false;
+    if (form != OPL_NEITHER)
+        return fail("a preamble with a bit inverted is taken for one");
+    printf("  %-*s neither: no frame starts there\n", GIVEN, "its preamble with bit 99 inverted");
+    return true;
+}
+
 /* Shows that a refused call touches nothing: a buffer that is a byte short for the preamble. */
 static bool refuse_preamble(void)
 {
     uint8_t lent[OPL_PREAMBLE_BYTES - 1], before[sizeof lent];
     memset(lent, 0xA5, sizeof lent);
     memcpy(before, lent, sizeof before);
-    if (!refused(opl_preamble(lent, sizeof lent), OPL_LENGTH, "preamble into 31 bytes, which stay"))
+    if (!refused(opl_preamble(0, lent, sizeof lent), OPL_LENGTH, "preamble into 31 bytes, which stay"))
         return false;
     return memcmp(lent, before, sizeof before) == 0 || fail("a refused call touched its buffer");
 }
 
-bool read_back(const char *frame_path, const uint8_t *sheet, size_t n, const uint8_t *payload)
+/* Reads the signalling word and the first payload word of a frame that was found. */
+static bool read_frame(const uint8_t *frame, const struct sent_frame *sent)
 {
-    uint8_t frame[START_BYTES + OPL_PAYLOAD_CODEWORD_MOST], back[OPL_SHEET_ROOM];
-    size_t got;
-    printf("\nthe frame read back, as if received without noise\n");
-    if (!load(frame_path, frame, sizeof frame, &got))
-        return false;
-    if (got < START_BYTES)
-        return fail("%s: it has less than was written", frame_path);
-    if (!read_signalling(frame + OPL_PREAMBLE_BYTES, sheet, n, back))
-        return false;
+    uint8_t back[OPL_SHEET_ROOM];
     struct pipe pipes[PIPES_MOST];
+    printf("\nframe %u read back, as if received without noise\n", sheet_frame_index(sent->sheet));
+    if (!damage_preamble(frame) || !read_signalling(frame + OPL_PREAMBLE_BYTES, sent->sheet, back))
+        return false;
     const struct pipe *pipe = first_sent(back, pipes);
-    if (pipe == NULL)
-        return refuse_preamble();
-    if (got < START_BYTES + opl_codeword_bytes(pipe->pattern))
-        return fail("%s: it has less than was written", frame_path);
-    return read_payload(frame + START_BYTES, pipe, payload) && refuse_preamble();
+    return pipe == NULL || read_payload(frame + START_BYTES, pipe, sent->payload);
+}
+
+/* Finds the frames in the n bytes that were recorded, and reads one. */
+static bool read_recorded(const struct recording *recording, const uint8_t *bytes, size_t n, size_t number,
+                          const struct sent_frame *sent)
+{
+    size_t at = 0;
+    if (n != recording->frames * recording->frame_bytes)
+        return fail("%s: it has not as many bytes as were written", recording->path);
+    printf("\nthe frames found by the form of their preambles, looked for at every byte\n");
+    return find_frames(bytes, n, recording->frame_bytes, number, &at) && read_frame(bytes + at, sent) &&
+           refuse_preamble();
+}
+
+bool read_back(const struct recording *recording, size_t number, const struct sent_frame *sent)
+{
+    /* a byte more than there should be, which would be seen */
+    size_t room = recording->frames * recording->frame_bytes + 1, n;
+    uint8_t *bytes = malloc(room);
+    if (bytes == NULL)
+        return fail("%s: no memory for it", recording->path);
+    bool ok = load(recording->path, bytes, room, &n) && read_recorded(recording, bytes, n, number, sent);
+    free(bytes);
+    return ok;
 }

@@ -5,9 +5,20 @@
 /* Bytes of the sheet, as opl.h lays it out. */
 enum { PIPE_COUNT = 0, PIPE_OFFSET = 4, STREAM_OFFSET = 6, TAIL = 19, PIPE_BYTES = 6, STREAM_BYTES = 2 };
 
+/* The multiplex fields that count: Event_Countdown in 11 bits, Frame_Index in 22 (table 15). */
+enum { EVENT_COUNTDOWN = 12, EVENT_TOP = 0x07, FRAME_INDEX = 15, FRAME_TOP = 0x3F };
+
+/* A pipe's countdown, in 10 bits from the third of this byte of its record on (table 16). */
+enum { COUNTDOWN = 3, COUNTDOWN_TOP = 0x3F, COUNTDOWN_LOW = 0xF0 };
+
+static size_t table_at(const uint8_t *sheet, size_t offset)
+{
+    return (size_t)(sheet[offset] << 8 | sheet[offset + 1]);
+}
+
 static const uint8_t *table(const uint8_t *sheet, size_t offset)
 {
-    return sheet + (sheet[offset] << 8 | sheet[offset + 1]);
+    return sheet + table_at(sheet, offset);
 }
 
 /* A record of table 16. A pipe of width 0 owns no stream, whatever Num_STS_1 says (clause 4.10.3). */
@@ -79,4 +90,63 @@ uint8_t slot_stream(const struct pipe *pipe, size_t slot)
     while (place >= stream_slots(pipe, i))
         place -= stream_slots(pipe, i++);
     return pipe->streams[STREAM_BYTES * i];
+}
+
+unsigned sheet_frame_index(const uint8_t *sheet)
+{
+    const uint8_t *field = sheet + FRAME_INDEX;
+    return (unsigned)((field[0] & FRAME_TOP) << 16 | field[1] << 8 | field[2]);
+}
+
+/* Puts a number's bits where the mask has ones. The byte's other bits are of other fields, and stay. */
+static void put_bits(uint8_t *byte, uint8_t mask, size_t number)
+{
+    *byte = (uint8_t)(*byte & (uint8_t)~mask) | (uint8_t)(number & mask);
+}
+
+/* Frame_Index one higher; after the last number that it has comes 0. */
+static void count_frame(uint8_t *sheet)
+{
+    unsigned next = sheet_frame_index(sheet) + 1;
+    uint8_t *field = sheet + FRAME_INDEX;
+    put_bits(field, FRAME_TOP, next >> 16);
+    field[1] = (uint8_t)(next >> 8);
+    field[2] = (uint8_t)next;
+}
+
+static void count_event(uint8_t *sheet)
+{
+    uint8_t *field = sheet + EVENT_COUNTDOWN;
+    size_t countdown = (field[0] & EVENT_TOP) << 8 | field[1];
+    size_t next = countdown == 0 ? 0 : countdown - 1;
+    put_bits(field, EVENT_TOP, next >> 8);
+    field[1] = (uint8_t)next;
+}
+
+/* A period of more slots than the field counts, 1,023, cannot be announced, and is not kept to. */
+static size_t next_countdown(const struct pipe *pipe)
+{
+    size_t slots = pipe_codewords(pipe), countdown = pipe->countdown;
+    if (countdown == 0 || countdown > slots)
+        return countdown == 0 ? 0 : countdown - slots;
+    size_t period = period_slots(pipe);
+    return period - (slots - countdown) % period;
+}
+
+static void count_slots(uint8_t *record, const struct pipe *pipe)
+{
+    size_t next = next_countdown(pipe);
+    uint8_t *field = record + COUNTDOWN;
+    put_bits(field, COUNTDOWN_TOP, next >> 4);
+    put_bits(field + 1, COUNTDOWN_LOW, next << 4);
+}
+
+void sheet_next(uint8_t *sheet)
+{
+    struct pipe pipes[PIPES_MOST];
+    size_t payload_pipes = sheet_pipes(sheet, pipes) - 1;
+    count_frame(sheet);
+    count_event(sheet);
+    for (size_t i = 0; i < payload_pipes; i++)
+        count_slots(sheet + table_at(sheet, PIPE_OFFSET) + PIPE_BYTES * i, &pipes[i]);
 }

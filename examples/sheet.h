@@ -32,6 +32,17 @@ struct pipe {
 /* Finds a sheet's pipes, the tail pipe last, and returns how many there are. */
 size_t sheet_pipes(const uint8_t *sheet, struct pipe pipes[PIPES_MOST]);
 
+/* The index of the frame that a sheet is of, Frame_Index (table 15). */
+unsigned sheet_frame_index(const uint8_t *sheet);
+
+/*
+ * Makes a sheet that of the next frame, where no event intervenes: what counts is counted on, and all else
+ * stays. Frame_Index goes up by one, Event_Countdown down by one until it is 0, and each pipe's countdown down by
+ * its slots. Where that would pass the start of a schedule period, the start that is announced is the one after
+ * it; a pipe whose countdown is 0 begins a period in each frame and stays so (clause 4.10.3).
+ */
+void sheet_next(uint8_t *sheet);
+
 /*
  * The codewords that are made for a pipe in a frame: one for each of its slots, none where it is not in
  * use or its pattern is reserved, and one for the tail pipe, whose width no codeword need fit.

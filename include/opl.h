@@ -34,7 +34,7 @@
 
 /* The version of this header and of the library that comes with it: numbers, and a text of them with dots. */
 #define OPL_VERSION_MAJOR 0
-#define OPL_VERSION_MINOR 1
+#define OPL_VERSION_MINOR 2
 #define OPL_VERSION_PATCH 0
 #define OPL_VERSION OPL_DOTTED(OPL_VERSION_MAJOR, OPL_VERSION_MINOR, OPL_VERSION_PATCH)
 
@@ -93,17 +93,38 @@ enum opl_refusal {
 #define OPL_PREAMBLE_BYTES 32
 
 /*
- * Writes the start-of-frame preamble (clause 4.10.1.2), upright, into the n bytes at out: the 28
- * characters "SOF preamble: New C-TS frame", then FF FF FF FC.
+ * Writes the start-of-frame preamble (clause 4.10.1.2): upright, the 28 characters
+ * "SOF preamble: New C-TS frame", then FF FF FF FC; inverted, the same with every bit inverted. Frames have
+ * the two in turn. The library counts no frames: the caller says which of the two is due.
  *
- *   out   n bytes, n = 32 (OPL_PREAMBLE_BYTES)
+ *   inverted   0: upright; any other number: inverted
+ *   out        n bytes, n = 32 (OPL_PREAMBLE_BYTES)
+ *
+ * Called with 0 and with another number, it gives two preambles that differ in all 256 bits. Each has as many
+ * ones as zeros.
  *
  * Refusals: OPL_LENGTH where n is not 32.
- *
- * Provisional: the standard inverts the preamble in every second frame. A later version will have the caller
- * say which of the two is due, and this function will change with it.
  */
-uint8_t opl_preamble(uint8_t *out, size_t n);
+uint8_t opl_preamble(uint8_t inverted, uint8_t *out, size_t n);
+
+/* What opl_preamble_form says of 32 bytes. */
+enum opl_form {
+    OPL_NEITHER = 0,  /* neither of the two preambles, be it by one bit */
+    OPL_UPRIGHT = 1,  /* the upright preamble, all of it */
+    OPL_INVERTED = 2  /* the inverted preamble, all of it */
+};
+
+/*
+ * Says whether bytes are the start-of-frame preamble, and in which of its two forms.
+ *
+ *   bytes   n bytes, n = 32 (OPL_PREAMBLE_BYTES)
+ *   form    m bytes, m = 1: becomes OPL_NEITHER, OPL_UPRIGHT or OPL_INVERTED
+ *
+ * What opl_preamble has written has the form that was asked of it.
+ *
+ * Refusals: OPL_LENGTH where n is not 32, or m is not 1.
+ */
+uint8_t opl_preamble_form(const uint8_t *bytes, size_t n, uint8_t *form, size_t m);
 
 /* The length of a signalling word, in bytes. */
 #define OPL_SIGNALLING_BYTES 96

@@ -8,9 +8,10 @@ use compare::rng::Rng;
 use std::marker::PhantomData;
 use std::process::{Command, Output};
 
-/// 01's orders.
+/// 01's orders, and those of the requests that change it.
 const ORDERS: &[(&str, &[u8])] = &[
     ("opl_preamble", &[1]),
+    ("opl_preamble_form", &[1]),
     ("opl_signalling_read", &[1, 2, 5, 6, 7, 8, 9, 10, 11]),
     ("opl_signalling_write", &[1, 12, 14, 6, 13, 7, 9, 10, 11]),
     ("opl_payload_write", &[15, 1]),

@@ -7,6 +7,7 @@ use compare::fuzz::entries;
 use compare::inputs;
 use compare::opl;
 use compare::rng::Rng;
+use compare::second::preamble::Form;
 use compare::second::signalling::{sheet_of, word_of};
 use program::{build, figure, file, made, run};
 use std::collections::{BTreeMap, BTreeSet};
@@ -84,6 +85,13 @@ fn the_version_is_that_of_the_numbers() {
 #[test]
 fn an_empty_buffer_is_lent() {
     assert!(lines("empty").eq(["0", "0", "1", "1"]));
+}
+
+#[test]
+fn the_forms_have_the_numbers_that_are_told() {
+    let numbers = [Form::Neither, Form::Upright, Form::Inverted].map(|form| form as u8);
+    let due = numbers.map(|number| format!("{number} {number}"));
+    assert!(lines("form").eq(due));
 }
 
 /// The text of each number that a byte has.

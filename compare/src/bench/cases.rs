@@ -6,6 +6,7 @@ use crate::inputs::{infoword, points_at_the_bound, set_payload_header, values, C
 use crate::rng::Rng;
 use crate::second::turbo::{self, Encoder, PAYLOAD_BLOCK, SIGNALLING_BLOCK};
 use crate::second::{payload, preamble, signalling};
+use std::hint::black_box;
 
 type Rows<'a> = Vec<Box<dyn Row + 'a>>;
 
@@ -33,8 +34,16 @@ pub fn rows(encoder: &Encoder) -> Rows<'_> {
     rows.extend(sheets().map(|(case, sheet)| signalling_read(case, sheet)));
     rows.extend([0, 1].map(payload_write));
     rows.extend([0, 1].map(payload_read));
-    rows.push(sof_preamble());
+    rows.extend([("upright", 0), ("inverted", 1)].map(sof_preamble));
+    rows.extend(preambles().map(preamble_form));
     rows
+}
+
+/// Puts what the second implementation made where it is asked for, which is cleared first, as it is for the library.
+fn put<const N: usize>(made: Result<[u8; N], u8>, asked: &mut [u8]) -> Result<(), u8> {
+    black_box(&mut *asked).fill(0);
+    asked.copy_from_slice(&made?);
+    Ok(())
 }
 
 fn coding_title(function: &'static str, coding: Coding, tables: Tables) -> Title {
@@ -101,10 +110,7 @@ fn signalling_write<'a>(case: String, sheet: Vec<u8>) -> Box<dyn Row + 'a> {
         signalling::WORD_BYTES,
         move |_| sheet.clone(),
         library::signalling_write,
-        |sheet, word| {
-            word.copy_from_slice(&signalling::write(sheet, signalling::WORD_BYTES)?);
-            Ok(())
-        },
+        |sheet, word| put(signalling::write(sheet, signalling::WORD_BYTES), word),
     )
 }
 
@@ -150,10 +156,7 @@ fn payload_read<'a>(ty: u32) -> Box<dyn Row + 'a> {
         payload::HEADER_BYTES,
         move |rng| payload_word(rng, ty),
         library::payload_read,
-        |word, header| {
-            header.copy_from_slice(&payload::report(word, payload::HEADER_BYTES)?);
-            Ok(())
-        },
+        |word, header| put(payload::report(word, payload::HEADER_BYTES), header),
     )
 }
 
@@ -164,21 +167,44 @@ fn payload_word(rng: &mut Rng, ty: u32) -> Vec<u8> {
     word
 }
 
-fn sof_preamble<'a>() -> Box<dyn Row + 'a> {
-    let title = Title {
-        function: "opl_preamble",
-        case: "upright".to_string(),
+fn preamble_title(function: &'static str, case: &str) -> Title {
+    Title {
+        function,
+        case: case.to_string(),
         tables: Tables::None,
-    };
+    }
+}
+
+/// The choice is handed over as what is read, so that neither side knows it before the call.
+fn sof_preamble<'a>((case, inverted): (&str, u8)) -> Box<dyn Row + 'a> {
     row(
-        title,
+        preamble_title("opl_preamble", case),
         preamble::BYTES,
-        |_| Vec::<u8>::new(),
-        |_, out| library::preamble(out),
-        |_, out| {
-            *out = preamble::preamble();
-            Ok(())
-        },
+        move |_| vec![inverted],
+        |choice, out| library::preamble(choice[0], out),
+        |choice, out| put(preamble::write(choice[0], preamble::BYTES), out),
+    )
+}
+
+/// Both preambles; and what is neither by its last bit alone, so that all of it has to be looked at.
+fn preambles() -> [(&'static str, [u8; preamble::BYTES]); 3] {
+    let [upright, inverted] = [false, true].map(preamble::preamble);
+    let mut neither = upright;
+    neither[preamble::BYTES - 1] ^= 1;
+    [
+        ("upright", upright),
+        ("inverted", inverted),
+        ("neither by the last bit", neither),
+    ]
+}
+
+fn preamble_form<'a>((case, bytes): (&str, [u8; preamble::BYTES])) -> Box<dyn Row + 'a> {
+    row(
+        preamble_title("opl_preamble_form", case),
+        preamble::FORM_BYTES,
+        move |_| bytes.to_vec(),
+        library::preamble_form,
+        |bytes, form| put(preamble::report(bytes, preamble::FORM_BYTES), form),
     )
 }
 

@@ -3,18 +3,35 @@
 use super::entries::held;
 use super::{Entry, Fault, Trial, Verdict};
 use crate::calls::{
-    Call, Encode, PayloadRead, PayloadWrite, Place, SignallingRead, SignallingWrite,
+    Call, Encode, PayloadRead, PayloadWrite, Place, Preamble, PreambleForm, SignallingRead,
+    SignallingWrite,
 };
 use crate::inputs::{codings, Coding};
 use crate::second::bits::{bit, bits};
+use crate::second::preamble::{Form, FORM_BYTES};
 use crate::second::{payload, signalling};
 
-pub(super) const CHAINS: [fn(&mut Trial) -> Verdict; 4] = [
+pub(super) const CHAINS: [fn(&mut Trial) -> Verdict; 5] = [
+    preamble_and_form,
     sheet_and_back,
     word_and_back,
     signalling_to_lane,
     payload_to_lane,
 ];
+
+/// A preamble is written; its form is the one that was asked for.
+fn preamble_and_form(trial: &mut Trial) -> Verdict {
+    let writing = Preamble::accepted(&mut trial.rng);
+    let bytes = trial.call(&writing, Some(0))?.out;
+    let form = held(&mut trial.rng, FORM_BYTES);
+    let asking = PreambleForm { bytes, form };
+    let form = trial.call(&asking, Some(0))?.form;
+    let asked = match writing.inverted {
+        0 => Form::Upright,
+        _ => Form::Inverted,
+    };
+    same(&asking, &form, &[asked as u8])
+}
 
 /// A sheet is written as a word; what is read from this is the sheet.
 fn sheet_and_back(trial: &mut Trial) -> Verdict {

@@ -3,6 +3,7 @@
 
 mod descriptions;
 mod payload;
+mod preamble;
 mod sheets;
 mod turbo;
 mod words;
@@ -11,6 +12,7 @@ pub use descriptions::{description, plain, plain_pipe, points_at_the_bound};
 pub use payload::{
     mutated_payload_word, payload_word, refused_payload_word, set_payload_header, PAYLOAD_REFUSALS,
 };
+pub use preamble::{preamble_bytes, preamble_choice};
 pub use sheets::{mutated_sheet, refused_sheet, sheet, SHEET_REFUSALS};
 pub use turbo::{coding, codings, infoword, values, Coding};
 pub use words::{mutated_word, refused_word, room, word, WORD_REFUSALS};

@@ -1,7 +1,7 @@
 //! The independent second implementation, the partner that the proved library is compared with. It is
-//! written from the documents alone, the scope ("01" in the comments) and EN 302 550-1-1 V1.1.1 ("the
-//! standard"), without sight of the library's code or tables. TABLES.md says how the tables that are
-//! damaged in its text were read.
+//! written from the documents alone, the scope ("01" in the comments), the requests that change it ("02")
+//! and EN 302 550-1-1 V1.1.1 ("the standard"), without sight of the library's code or tables. TABLES.md
+//! says how the tables that are damaged in its text were read.
 #![forbid(unsafe_code)]
 
 pub mod bits;

@@ -10,6 +10,9 @@ use Rattle.ground.proofs.Outcome.{agree}
 use Rattle.opl.proofs.opl_preamble as opl-preamble
 use Rattle.opl.proofs.opl_preamble.Kinds as opl-preamble-kinds
 use Rattle.opl.proofs.opl_preamble.Reads as opl-preamble-reads
+use Rattle.opl.proofs.opl_preamble_form as opl-preamble-form
+use Rattle.opl.proofs.opl_preamble_form.Kinds as opl-preamble-form-kinds
+use Rattle.opl.proofs.opl_preamble_form.Reads as opl-preamble-form-reads
 use Rattle.opl.proofs.opl_signalling_read as opl-signalling-read
 use Rattle.opl.proofs.opl_signalling_read.Kinds as opl-signalling-read-kinds
 use Rattle.opl.proofs.opl_signalling_read.Reads as opl-signalling-read-reads
@@ -31,8 +34,13 @@ use Rattle.opl.proofs.opl_place.Reads as opl-place-reads
 
 module _ (κs : Lfts 1) (a : ArgsD opl-preamble.signature κs) where
   pub opl-preamble-agrees : (r r′ : ResD opl-preamble.signature κs) (s s′ : AtExit (endedOf 1 opl-preamble-kinds.ps opl-preamble-kinds.r) κs) →
-      opl-preamble-reads.Post κs a r s → opl-preamble-reads.Post κs a r′ s′ → (r ≡ r′) × (now (s .0) ≡ now (s′ .0))
+      opl-preamble-reads.Post κs a r s → opl-preamble-reads.Post κs a r′ s′ → (r ≡ r′) × (now (s .1 .0) ≡ now (s′ .1 .0))
   opl-preamble-agrees r r′ s s′ p q = agree p q
+
+module _ (κs : Lfts 2) (a : ArgsD opl-preamble-form.signature κs) where
+  pub opl-preamble-form-agrees : (r r′ : ResD opl-preamble-form.signature κs) (s s′ : AtExit (endedOf 2 opl-preamble-form-kinds.ps opl-preamble-form-kinds.r) κs) →
+      opl-preamble-form-reads.Post κs a r s → opl-preamble-form-reads.Post κs a r′ s′ → (r ≡ r′) × (now (s .1 .0) ≡ now (s′ .1 .0))
+  opl-preamble-form-agrees r r′ s s′ p q = agree p q
 
 module _ (κs : Lfts 2) (a : ArgsD opl-signalling-read.signature κs) where
   pub opl-signalling-read-agrees : (r r′ : ResD opl-signalling-read.signature κs) (s s′ : AtExit (endedOf 2 opl-signalling-read-kinds.ps opl-signalling-read-kinds.r) κs) →

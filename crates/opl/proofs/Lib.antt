@@ -1,5 +1,6 @@
 pub mod Agree
 pub mod Demand
+pub mod Preambles
 pub mod PayloadBack
 pub mod Placed
 pub mod DemandWrite

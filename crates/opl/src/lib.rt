@@ -1,7 +1,9 @@
 // The C face: exported functions on numbers and byte slices, each a call of the crate that does the work.
 // include/opl.h documents them for their callers.
 use sheets::answer::Answer;
+ghost use mathlib.Core.Bool.{not};
 ghost use Prim.Native.Nat.{_<_};
+ghost use lib.Dec.{eqb};
 ghost use Rattle.ground.specs.Outcome.{Is, numberOf};
 ghost use Rattle.bits.specs.Lists.{Below};
 ghost use Rattle.description.specs.Word.{reading};
@@ -10,13 +12,22 @@ ghost use Rattle.payload.specs.Answers.{written as payloadWritten, readInto};
 ghost use Rattle.turbo.specs.Encode.{encoded};
 ghost use Rattle.placement.specs.Place.{placing};
 ghost use Rattle.preamble.specs.Preamble.{written};
+ghost use Rattle.preamble.specs.Forms.{formInto};
 
-// The start-of-frame preamble into 32 bytes.
+// The start-of-frame preamble into 32 bytes: upright for 0, inverted for any other number.
 #[no_mangle]
-pub extern "C" fn opl_preamble(out: &mut [u8]) -> u8
-    ensures { λ r. ⌜ Is (written (now (out .entry))) r (now (out .exit)) ⌝ }
+pub extern "C" fn opl_preamble(inverted: u8, out: &mut [u8]) -> u8
+    ensures { λ r. ⌜ Is (written (not (eqb inverted 0)) (now (out .entry))) r (now (out .exit)) ⌝ }
 {
-    preamble::write(out)
+    preamble::write(inverted != 0, out)
+}
+
+// Which of the two preambles 32 bytes are, if any, into one byte.
+#[no_mangle]
+pub extern "C" fn opl_preamble_form(bytes: &[u8], form: &mut [u8]) -> u8
+    ensures { λ r. ⌜ Is (formInto (now (bytes .entry)) (now (form .entry))) r (now (form .exit)) ⌝ }
+{
+    preamble::form::tell_into(bytes, form)
 }
 
 // The signalling word of a sheet into 96 bytes.

@@ -1,2 +1,5 @@
 pub mod Laws
+pub mod Telling
+pub mod Alternates
+pub mod Promised
 pub mod Agree

@@ -1,1 +1,3 @@
 pub mod Preamble
+pub mod Forms
+pub mod Alternates

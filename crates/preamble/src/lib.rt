@@ -1,18 +1,19 @@
-// The start-of-frame preamble (clause 4.10.1.2), upright.
+// The start-of-frame preamble (clause 4.10.1.2), upright or inverted, written; form.rt tells the two from other bytes.
+pub mod form;
+mod sof;
+
+use crate::sof::PREAMBLE;
 ghost use Rattle.ground.specs.Outcome.{Is};
 ghost use Rattle.preamble.specs.Preamble.{written};
 
-// The bytes of the preamble.
-const PREAMBLE: usize = 32;
-
-// Writes the preamble into 32 bytes and returns 0; returns 1 and touches nothing where the length is another.
-pub fn write(out: &mut [u8]) -> u8
-    ensures { λ r. ⌜ Is (written (now (out .entry))) r (now (out .exit)) ⌝ }
+// Writes the preamble that is due into 32 bytes and returns 0; returns 1 and touches nothing where the length is another.
+pub fn write(inverted: bool, out: &mut [u8]) -> u8
+    ensures { λ r. ⌜ Is (written inverted (now (out .entry))) r (now (out .exit)) ⌝ }
 {
     if out.len() != PREAMBLE {
         return ground::LENGTH_WRONG;
     }
-    let sof = b"SOF preamble: New C-TS frame\xff\xff\xff\xfc";
+    let sof = sof::due(inverted);
     let mut i = 0;
     while i < PREAMBLE {
         out[i] = sof[i];
