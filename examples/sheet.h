@@ -38,8 +38,8 @@ unsigned sheet_frame_index(const uint8_t *sheet);
 /*
  * Makes a sheet that of the next frame, where no event intervenes: what counts is counted on, and all else
  * stays. Frame_Index goes up by one, Event_Countdown down by one until it is 0, and each pipe's countdown down by
- * its slots. Where that would pass the start of a schedule period, the start that is announced is the one after
- * it; a pipe whose countdown is 0 begins a period in each frame and stays so (clause 4.10.3).
+ * its slots. Where that reaches or passes the start of a schedule period, the start that is announced is the next
+ * one; a pipe whose countdown is 0 begins a period in each frame and stays so (clause 4.10.3).
  */
 void sheet_next(uint8_t *sheet);
 

@@ -88,18 +88,20 @@ module _ (c : Bool) (out m : List ℕ) (r : ℕ) (o : Is (written c out) r m) (z
   pub left-balanced : Balanced m
   left-balanced = subst Balanced (sym left) (balanced c)
 
+  told-left : (w : List ℕ) → w ≡ m → acceptedWith (formOf (due c) ∷ []) ≡ forming w
+  told-left w e =
+      let h : w ≡ due c = e ∙ left in
+      tells-form w (formOf (due c)) (ap length h ∙ due-length c) (ap formOf (sym h))
+
   -- whose form is the one asked for
   pub form-left : (w : List ℕ) → w ≡ m → told (asked c) ≡ forming w
-  form-left w e =
-      let h : w ≡ due c = e ∙ left in
-      form-due c ∙ ap (λ (x : List ℕ). acceptedWith (formOf x ∷ [])) (sym h) ∙ tells-form w (formOf w) (ap length h ∙ due-length c) refl
+  form-left w e = form-due c ∙ told-left w e
 
   -- also in one byte
   pub into-left : (w b f : List ℕ) (n : ℕ) → w ≡ m → length b ≡ 1 → Is (formInto w b) n f → (n ≡ 0) × (f ≡ told (asked c) .values)
   into-left w b f n e l p =
-      let h : w ≡ due c = e ∙ left in
-      let q = agree p (into-done w b (formOf w ∷ []) l (tells-form w (formOf w) (ap length h ∙ due-length c) refl) refl refl) in
-      (q .0, q .1 ∙ ap (λ (x : List ℕ). formOf x ∷ []) h ∙ sym (ap (λ (t : Told). t .values) (form-due c)))
+      let q = agree p (into-done w b (formOf (due c) ∷ []) l (told-left w e) refl refl) in
+      (q .0, q .1 ∙ sym (ap (λ (t : Told). t .values) (form-due c)))
 
 -- and two such calls with opposite choices left preambles that differ in all bits
 pub left-opposite : (c c' : Bool) (out m out' m' : List ℕ) (r r' : ℕ) → Is (written c out) r m → r ≡ 0 → Is (written c' out') r' m' → r' ≡ 0 → c' ≡ not c

@@ -1,8 +1,13 @@
 -- `preamble::form::tell_into` meets its contract. Assumes nothing.
-use mathlib.Core.Path.{_≡_, sym, ap, _∙_}
-use mathlib.Core.List.{[], _∷_}
+use Prim.Native.Nat.{ℕ}
+use mathlib.Core.Path.{_≡_, refl, sym, ap, _∙_}
+use mathlib.Core.List.{List, [], _∷_}
 use native.Mathlib.Omega.{arith}
-use Rattle.preamble.specs.Forms.{told}
+use Rattle.ground.specs.Outcome.{Is}
+use Rattle.ground.proofs.Answers.{acceptedWith}
+use Rattle.preamble.specs.Forms.{told, formInto}
+use Rattle.preamble.specs.declared.form.Form.{Form}
+use Rattle.preamble.specs.declared.form.Form.the-variants.{Neither, Upright, Inverted}
 use Rattle.preamble.proofs.Telling.{into-room, into-refused, into-done}
 use borrow.Author.Needs.{needs}
 use Rattle.preamble.proofs.form.tell_into.Statement.{statement}
@@ -11,6 +16,14 @@ use Rattle.preamble.proofs.form.tell_into.Reads as reads
 use Rattle.preamble.proofs.form.tell_into.Lts as lts
 use Rattle.preamble.proofs.form.tell.Reads as tell-reads
 use Rattle.preamble.proofs.form.put.Reads as put-reads
+
+-- a form that was told, and put
+put-form : (k : lts.After-tell (tell-reads.Asked, tell-reads.Learnt, put-reads.Asked, put-reads.Learnt) reads.Pre reads.Post) (h : Form) (f : ℕ) {r : ℕ} (m : List ℕ)
+    → k .tell .result ≡ h → told h ≡ acceptedWith (f ∷ []) → r ≡ 0 → m ≡ f ∷ []
+    → Is (formInto (k .before .before .before .before .args .bytes .now) (k .before .before .before .before .args .out .now)) r m
+put-form k h f m e t z q =
+    let a = k .before .before .before .before .args in
+    into-done (a .bytes .now) (a .out .now) m (omega (arith, k .before .if1 .left)) (sym t ∙ ap told (sym e) ∙ k .tell .ensures) z q
 
 returns : tie.Need-returns
 returns c =
@@ -48,11 +61,7 @@ returns-2 : tie.Need-returns-2
 returns-2 c =
     let p = c .before .before in
     let e = p .before .before in
-    let k = e .before .before in
-    let a = k .before .before .before .before .args in
-    let v : p .put .last .0 ≡ 0 ∷ [] = p .put .ensures .1 in
-    into-done (a .bytes .now) (a .out .now) (p .put .last .0) (omega (arith, k .before .if1 .left))
-    (ap told (sym (e .enum-told .given .1)) ∙ k .tell .ensures) (p .put .ensures .0) v
+    put-form (e .before .before) Neither 0 (p .put .last .0) (e .enum-told .given .1) refl (p .put .ensures .0) (p .put .ensures .1)
 
 same-length-2 : tie.Need-same-length-2
 same-length-2 c = search needs
@@ -61,11 +70,7 @@ returns-3 : tie.Need-returns-3
 returns-3 c =
     let p = c .before .before in
     let e = p .before .before in
-    let k = e .before .before in
-    let a = k .before .before .before .before .args in
-    let v : p .put2 .last .0 ≡ 1 ∷ [] = p .put2 .ensures .1 in
-    into-done (a .bytes .now) (a .out .now) (p .put2 .last .0) (omega (arith, k .before .if1 .left))
-    (ap told (sym (e .enum-told2 .given .1)) ∙ k .tell .ensures) (p .put2 .ensures .0) v
+    put-form (e .before .before) Upright 1 (p .put2 .last .0) (e .enum-told2 .given .1) refl (p .put2 .ensures .0) (p .put2 .ensures .1)
 
 same-length-3 : tie.Need-same-length-3
 same-length-3 c = search needs
@@ -74,11 +79,7 @@ returns-4 : tie.Need-returns-4
 returns-4 c =
     let p = c .before .before in
     let e = p .before .before in
-    let k = e .before .before in
-    let a = k .before .before .before .before .args in
-    let v : p .put3 .last .0 ≡ 2 ∷ [] = p .put3 .ensures .1 in
-    into-done (a .bytes .now) (a .out .now) (p .put3 .last .0) (omega (arith, k .before .if1 .left))
-    (ap told (sym (e .enum-told3 .given .1)) ∙ k .tell .ensures) (p .put3 .ensures .0) v
+    put-form (e .before .before) Inverted 2 (p .put3 .last .0) (e .enum-told3 .given .1) refl (p .put3 .ensures .0) (p .put3 .ensures .1)
 
 returns-5 : tie.Need-returns-5
 returns-5 c =
