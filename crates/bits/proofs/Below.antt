@@ -3,6 +3,7 @@
 use Prim.Native.Nat.{ℕ, zero, suc, _<_}
 use mathlib.Core.List.{List, [], _∷_, _++_}
 use lib.ListN.{getD, take, drop, replicate}
+use Rattle.ground.specs.Table.{tab}
 use Rattle.bits.specs.Lists.{Below}
 
 pub below-append : (m : ℕ) (a b : List ℕ) → Below m a → Below m b → Below m (a ++ b)
@@ -31,3 +32,8 @@ below-of m (x ∷ l) h = (h 0, below-of m l (λ i. h (suc i)))
 pub below-replicate : (m n x : ℕ) → x < m → Below m (replicate n x)
 below-replicate m zero x h = tt
 below-replicate m (suc n) x h = (h, below-replicate m n x h)
+
+pub below-tab : (m : ℕ) (f : ℕ → ℕ) → ((k : ℕ) → f k < m) → (i n : ℕ) → Below m (tab f i n)
+unfolding tab
+below-tab m f h i zero = tt
+below-tab m f h i (suc n) = (h i, below-tab m f h (suc i) n)

@@ -1,7 +1,7 @@
 -- The laws that join the two styles: a list of bits, and the bit at a place.
 -- Assumes nothing.
 use Prim.Native.Nat.{ℕ, zero, suc, _+_, _-_, _*_, _/_, _%_, _^_, _≤_, _<_}
-use mathlib.Core.Path.{_≡_, refl, sym, ap, _∙_, subst}
+use mathlib.Core.Path.{_≡_, refl, sym, ap, ap₂, _∙_, subst}
 use mathlib.Core.List.{List, [], _∷_, _++_}
 use native.Mathlib.Nat.{zero-div, zero-add, add-zero}
 use native.Mathlib.Numerals.{add-one}
@@ -10,11 +10,12 @@ use native.Mathlib.Omega.{arith}
 use lib.ListN.{length, getD, take, drop, length-drop, List·getD-append}
 use lib.Seq.{getD-append-add, getD-drop, getD-take, length-take-le, drop-drop, ext-getD}
 use Rattle.ground.specs.Table.{tab}
-use Rattle.ground.proofs.Table.{length-tab, getD-tab}
+use Rattle.ground.proofs.Table.{length-tab, getD-tab, tab-snoc}
 use Rattle.bits.specs.Lists.{bits, num, unpack, pack, Below}
 use Rattle.bits.specs.Places.{bitAt, number, packed, fieldAt}
-use Rattle.bits.proofs.Lists.{bits-length, num-more, unpack-length, pack-length, unpack-pack, pack-unpack}
-use Rattle.bits.proofs.Places.{number-cong, field-is, packed-ext, packed-cong}
+use Rattle.bits.proofs.Below.{below-tab}
+use Rattle.bits.proofs.Lists.{bits-length, num-snoc, num-more, unpack-length, pack-length, unpack-pack, pack-unpack}
+use Rattle.bits.proofs.Places.{bit-lt, number-cong, field-is, packed-ext, packed-cong}
 
 -- bit i of the n low bits of v
 pub bits-at : (n v i : ℕ) → i < n → getD (bits n v) i 0 ≡ v / 2 ^ (n - 1 - i) % 2
@@ -52,6 +53,30 @@ run-unpack w at n h =
     (λ k p.
     let q : k < n = subst (λ (m : ℕ). k < m) (length-tab (bitAt w) at n) p in
     getD-tab (bitAt w) 0 at n k q ∙ bit-unpack w (at + k) ∙ sym (getD-take n (drop at u) k 0 q ∙ getD-drop at u k 0))
+
+pub run-below : (w : List ℕ) (at n : ℕ) → Below 2 (tab (bitAt w) at n)
+run-below w at n = below-tab 2 (bitAt w) (bit-lt w) at n
+
+-- the run of a byte
+pub run-byte : (w : List ℕ) (j : ℕ) → tab (bitAt w) (8 * j) 8 ≡ bits 8 (getD w j 0)
+unfolding bitAt
+run-byte w j =
+    ext-getD 0 (tab (bitAt w) (8 * j) 8) (bits 8 (getD w j 0)) (length-tab (bitAt w) (8 * j) 8 ∙ sym (bits-length 8 (getD w j 0)))
+    (λ i h.
+    let k : i < 8 = subst (λ (n : ℕ). i < n) (length-tab (bitAt w) (8 * j) 8) h in
+    getD-tab (bitAt w) 0 (8 * j) 8 i k ∙ there i k ∙ sym (bits-at 8 (getD w j 0) i k))
+  where
+    there : (i : ℕ) → i < 8 → bitAt w (8 * j + i) ≡ getD w j 0 / 2 ^ (8 - 1 - i) % 2
+    there i h =
+        let a : (8 * j + i) / 8 ≡ j = omega arith in
+        let b : 7 - (8 * j + i) % 8 ≡ 8 - 1 - i = omega arith in
+        ap₂ (λ (x y : ℕ). getD w x 0 / 2 ^ y % 2) a b
+
+-- what a run writes is its running number
+pub num-tab : (f : ℕ → ℕ) (i n : ℕ) → num (tab f i n) ≡ number f i n
+unfolding number num tab
+num-tab f i zero = refl
+num-tab f i (suc n) = ap num (tab-snoc f i n) ∙ num-snoc (tab f i n) (f (i + n)) ∙ ap (λ (x : ℕ). x * 2 + f (i + n)) (num-tab f i n)
 
 -- the running number over a list of bits is the number that the list writes
 pub number-list : (l : List ℕ) (at n : ℕ) → at + n ≤ length l → number (λ i. getD l i 0) at n ≡ num (take n (drop at l))
@@ -94,11 +119,6 @@ packed-bits w h =
     packed-cong (bitAt w) (λ i. getD (unpack w) i 0) (length w) (λ i p. bit-unpack w i)
     ∙ packed-pack (length w) (unpack w) (rw unpack-length (omega arith)) ∙ pack-unpack w h
 
-tab-below : (f : ℕ → ℕ) → ((k : ℕ) → f k < 2) → (i n : ℕ) → Below 2 (tab f i n)
-unfolding tab
-tab-below f b i zero = tt
-tab-below f b i (suc n) = (b i, tab-below f b (suc i) n)
-
 -- the bits of packed bytes are those that were packed
 pub bit-packed : (f : ℕ → ℕ) → ((k : ℕ) → f k < 2) → (n i : ℕ) → i < 8 * n → bitAt (packed f n) i ≡ f i
 bit-packed f b n i h =
@@ -107,7 +127,7 @@ bit-packed f b n i h =
     packed-cong f (λ k. getD l k 0) n (λ k p. sym (getD-tab f 0 0 (8 * n) k p ∙ ap f (zero-add k)))
     ∙ packed-pack n l (rw length-tab (omega arith)) in
     bit-unpack (packed f n) i ∙ ap (λ (w : List ℕ). getD (unpack w) i 0) e
-    ∙ ap (λ (x : List ℕ). getD x i 0) (unpack-pack n l (tab-below f b 0 (8 * n)) (length-tab f 0 (8 * n)))
+    ∙ ap (λ (x : List ℕ). getD x i 0) (unpack-pack n l (below-tab 2 f b 0 (8 * n)) (length-tab f 0 (8 * n)))
     ∙ getD-tab f 0 0 (8 * n) i h ∙ ap f (zero-add i)
 
 -- a field that stands i bits behind a place

@@ -4,4 +4,5 @@ pub mod Places
 pub mod Joined
 pub mod Numbers
 pub mod Sums
+pub mod Ones
 pub mod Agree

@@ -6,7 +6,7 @@ use mathlib.Core.List.{List, [], _∷_, _++_}
 use native.Mathlib.Nat.{pow-suc, mul-assoc, mul-comm, add-mul, mul-add-mod-self-right, mul-add-div-right, mod-eq-of-lt, mod-one, zero-mul, lt-of-lt-of-le}
 use native.Mathlib.Numerals.{one-add, add-one}
 use native.Mathlib.Omega.{arith}
-use lib.ListN.{length, getD, take, drop, length-append, length-take, length-drop, take-append-drop}
+use lib.ListN.{length, getD, take, drop, replicate, length-append, length-take, length-drop, take-append-drop}
 use lib.Seq.{take-at, drop-at, take-suc, getD-drop, length-take-le, take-append-le, drop-append-le}
 use lib.Pow.{pow-pos, pow-mono, high, pow-add, mod-pow-add}
 use lib.Arith.{digits-lt}
@@ -64,6 +64,11 @@ num-append (b ∷ l) m =
 pub num-snoc : (l : List ℕ) (b : ℕ) → num (l ++ (b ∷ [])) ≡ num l * 2 + b
 unfolding num
 num-snoc l b = num-append l (b ∷ []) ∙ omega arith
+
+pub num-zeros : (n : ℕ) → num (replicate n 0) ≡ 0
+unfolding num
+num-zeros zero = refl
+num-zeros (suc n) = ap₂ (λ (x y : ℕ). x + y) (zero-mul (2 ^ length (replicate n 0))) (num-zeros n)
 
 -- the number of i bits from a place on: one bit more, and how large it gets
 pub num-more : (b : List ℕ) (at i : ℕ) → at + i < length b → num (take (i + 1) (drop at b)) ≡ num (take i (drop at b)) * 2 + getD b (at + i) 0

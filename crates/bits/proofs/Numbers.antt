@@ -24,6 +24,13 @@ pub bits-join : (m n a b : ℕ) → b < 2 ^ n → bits (m + n) (a * 2 ^ n + b) �
 bits-join m n a b h =
     bits-append m n (a * 2 ^ n + b) ∙ ap₂ (λ (x y : List ℕ). x ++ y) (ap (bits m) (high a n h)) (bits-high n a b)
 
+-- one bit
+pub bits-one : (b : ℕ) → b < 2 → bits 1 b ≡ b ∷ []
+unfolding bits
+bits-one b h =
+    let e : b / 2 ^ 0 % 2 ≡ b = omega arith in
+    ap (λ (x : ℕ). x ∷ []) e
+
 -- a number in whole bytes, the highest byte first
 pub pack-bits : (n v : ℕ) → pack (suc n) (bits (8 + 8 * n) v) ≡ v / 2 ^ (8 * n) % 256 ∷ pack n (bits (8 * n) v)
 unfolding pack

@@ -14,8 +14,9 @@ use borrow.Author.Tests.{lt-ltb, le-ltb}
 use Rattle.ground.specs.Choice.{choose}
 use Rattle.ground.proofs.Choice.{choose-true, choose-false}
 use Rattle.bits.specs.Lists.{Below}
+use Rattle.bits.specs.Sums.{added}
 use Rattle.bits.proofs.Below.{below-get}
-use Rattle.bits.proofs.Sums.{added, added-at}
+use Rattle.bits.proofs.Sums.{added-at}
 use Rattle.constituent.specs.Constituent.{y0, y1}
 use Rattle.constituent.specs.Symbols.{dataSymbols}
 use Rattle.constituent.specs.Six.{stateOf, bitOf, after, registers, six, joint}

@@ -4,7 +4,7 @@ use Prim.Native.Nat.{ℕ, zero, suc, _+_, _%_, _≤_, _<_}
 use mathlib.Core.Path.{_≡_, refl, sym, ap, ap₂, _∙_}
 use mathlib.Core.List.{List, [], _∷_}
 use native.Mathlib.Omega.{arith}
-use Rattle.bits.proofs.Sums.{added}
+use Rattle.bits.specs.Sums.{added}
 use Rattle.constituent.specs.Constituent.{entering, y0, y1, next}
 use Rattle.constituent.specs.Symbols.{dataSymbols}
 use Rattle.constituent.specs.Six.{bitOf, after, registers}

@@ -5,24 +5,15 @@ use mathlib.Core.Path.{_≡_, refl, sym, ap, ap₂, _∙_}
 use mathlib.Core.List.{List, [], _∷_}
 use native.Mathlib.Nat.{zero-mul, one-mul, div-lt-iff-lt-mul, div-add-mod', not-suc-le-zero}
 use native.Mathlib.Omega.{arith}
-use lib.Arith.{bin-ind, mod-mul}
+use lib.Arith.{mod-mul}
 use lib.Dec.{lit<}
-use lib.Bits.{bitXor, xor-zero-r}
+use lib.Bits.{bitXor}
 use lib.ListN.{length, getD, set}
 use lib.Pow.{pow-pos}
 use Rattle.bits.specs.Lists.{Below}
-use Rattle.bits.proofs.Sums.{xor-half}
+use Rattle.bits.proofs.Sums.{xor-half, xor-cancel}
 use Rattle.crc.specs.Crc.{clock, clocks, crcOf}
 use Rattle.crc.proofs.Laws.{twice-top, clock-lt, clocks-lt}
-
-xor-cancel : (c a b : ℕ) → bitXor a c ≡ bitXor b c → a ≡ b
-xor-cancel =
-    bin-ind (λ (c : ℕ). (a b : ℕ) → bitXor a c ≡ bitXor b c → a ≡ b)
-    (λ a b e. sym (xor-zero-r a) ∙ e ∙ xor-zero-r b)
-    (λ c ih a b e.
-    let q : bitXor (a / 2) (c / 2) ≡ bitXor (b / 2) (c / 2) = omega (arith, xor-half a c, xor-half b c) in
-    let h : a / 2 ≡ b / 2 = ih (a / 2) (b / 2) q in
-    omega (arith, xor-half a c, xor-half b c))
 
 -- the bit that decides whether the tapped stages are inverted
 unfoldable decides : ℕ → ℕ → ℕ → ℕ

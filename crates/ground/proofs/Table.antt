@@ -30,6 +30,14 @@ unfolding tab
 tab-snoc f i zero = ap (λ k. f k ∷ []) (sym (add-zero i))
 tab-snoc f i (suc n) = ap (λ l. f i ∷ l) (tab-snoc f (suc i) n ∙ ap (λ k. tab f (suc i) n ++ (f k ∷ [])) (suc-add i n ∙ sym (add-suc i n)))
 
+-- two tables, one behind the other
+pub tab-append : {A : Type 0} (f : ℕ → A) (i m n : ℕ) → tab f i (m + n) ≡ tab f i m ++ tab f (i + m) n
+unfolding tab
+tab-append f i zero n = ap₂ (tab f) (sym (add-zero i)) (zero-add n)
+tab-append f i (suc m) n =
+    ap (tab f i) (suc-add m n)
+    ∙ ap (λ l. f i ∷ l) (tab-append f (suc i) m n ∙ ap (λ (k : ℕ). tab f (suc i) m ++ tab f k n) (suc-add i m ∙ sym (add-suc i m)))
+
 -- a list of which every entry keeps the rule is the table of the rule
 pub tab-ext : {A : Type 0} (f : ℕ → A) (d : A) (n : ℕ) (l : List A) → length l ≡ n → ((k : ℕ) → k < n → getD l k d ≡ f k) → l ≡ tab f 0 n
 tab-ext f d n l e h =

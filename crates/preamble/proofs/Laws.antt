@@ -1,6 +1,6 @@
 -- Laws of the two preambles: their bytes, that they differ in every bit, how many ones they have, and how one is written or refused.
 -- Assumes nothing.
-use Prim.Native.Nat.{ℕ, _-_, _<_}
+use Prim.Native.Nat.{ℕ, _<_}
 use mathlib.Core.Bool.{Bool, true, false, not}
 use mathlib.Core.Path.{_≡_, refl, sym, subst}
 use mathlib.Core.List.{List}
@@ -14,8 +14,9 @@ use Rattle.ground.proofs.Refusing.{refusal-leaves, acceptance-leaves}
 use Rattle.ground.proofs.Table.{at-all}
 use Rattle.bits.specs.Lists.{bits, num, unpack, pack}
 use Rattle.bits.specs.Places.{bitAt}
+use Rattle.bits.specs.Sums.{ones}
 use Rattle.preamble.specs.Preamble.{sof, inverse, sofInverted, due, written}
-use Rattle.preamble.specs.Alternates.{Opposite, ones, Balanced}
+use Rattle.preamble.specs.Alternates.{Opposite, Balanced}
 
 pub due-length : (c : Bool) → length (due c) ≡ 32
 unfolding due sof sofInverted pack

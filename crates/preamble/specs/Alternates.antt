@@ -1,15 +1,16 @@
 -- What is asked of the two preambles and of their forms, as propositions. The theorems say that they hold of the functions' own promises
 -- (proofs/Promised.antt here, and proofs/Preambles.antt of crate opl).
 -- Assumes nothing.
-use Prim.Native.Nat.{ℕ, _+_, _≤_, _<_}
+use Prim.Native.Nat.{ℕ, _≤_, _<_}
 use mathlib.Core.Bool.{Bool}
 use mathlib.Core.Path.{_≡_}
 use mathlib.Core.Logic.{_↔_}
-use mathlib.Core.List.{List, [], _∷_}
+use mathlib.Core.List.{List}
 use lib.ListN.{length}
 use Rattle.ground.specs.Choice.{choose}
 use Rattle.bits.specs.Lists.{unpack}
 use Rattle.bits.specs.Places.{bitAt}
+use Rattle.bits.specs.Sums.{ones}
 use Rattle.preamble.specs.Preamble.{sof, sofInverted}
 use Rattle.preamble.specs.declared.form.Form.{Form}
 use Rattle.preamble.specs.declared.form.Form.the-variants.{Upright, Inverted}
@@ -17,11 +18,6 @@ use Rattle.preamble.specs.declared.form.Form.the-variants.{Upright, Inve
 -- 32 bytes and 32 bytes that differ in all 256 bits
 abbrev pub Opposite : List ℕ → List ℕ → Type 0
 Opposite v w = (length v ≡ 32) × (length w ≡ 32) × ((i : ℕ) → i < 256 → bitAt v i ≡ bitAt w i → ⊥)
-
--- how many of a list of bits are ones
-unfoldable pub ones : List ℕ → ℕ
-ones [] = 0
-ones (b ∷ l) = b + ones l
 
 -- 32 bytes of which as many bits are ones as are zeros
 abbrev pub Balanced : List ℕ → Type 0
