@@ -1,0 +1,9 @@
+pub mod Division
+pub mod Laws
+pub mod Linear
+pub mod Register
+pub mod Sound
+pub mod Received
+pub mod Which
+pub mod Agree
+pub mod Promised

@@ -1,0 +1,79 @@
+-- Theorems about the functions' own promises: the part is a remainder and its parity bit, and which parts hold is which parts are sound;
+-- an odd number of wrong bits is seen. Assumes nothing.
+use Prim.Native.Nat.{ℕ, _+_, _*_, _/_, _%_, _^_, _<_}
+use mathlib.Core.Path.{_≡_, sym, ap, _∙_, subst}
+use mathlib.Core.List.{List, _++_}
+use native.Mathlib.Omega.{arith}
+use contract.Lifetimes.{Lfts}
+use borrow.Fn.World.{ArgsD, ResD}
+use borrow.Fn.Kinds.{endedOf}
+use denote.Ref.{now}
+use denote.Triple.Clauses.{AtExit}
+use Rattle.bits.specs.Lists.{bits, num}
+use Rattle.bits.specs.Places.{bitAt, number}
+use Rattle.bits.proofs.Joined.{run-below}
+use Rattle.parity.specs.Division.{Remainder}
+use Rattle.parity.specs.Part.{generator, remainder, atOne, outer, parityOf, messageAt, partOf, received, heldOf}
+use Rattle.parity.specs.Claims.{distance, Sound}
+use Rattle.parity.proofs.Laws.{remainder-is, at-one-lt}
+use Rattle.parity.proofs.Sound.{meaning, odd-seen}
+use Rattle.parity.proofs.Received.{received-bits}
+use Rattle.parity.proofs.Which.{held-set, held-true, held-false, held-all}
+use Rattle.parity.proofs.part as part
+use Rattle.parity.proofs.part.Kinds as part-kinds
+use Rattle.parity.proofs.part.Reads as part-reads
+use Rattle.parity.proofs.held as held
+use Rattle.parity.proofs.held.Kinds as held-kinds
+use Rattle.parity.proofs.held.Reads as held-reads
+
+-- after a call part(word, from): d(x) and p0 of the 3,008 bits there
+module _ (κs : Lfts 1) (a : ArgsD part.signature κs) (r : ResD part.signature κs) (s : AtExit (endedOf 1 part-kinds.ps part-kinds.r) κs)
+    (did : part-reads.Post κs a r s) where
+  abbrev message : List ℕ
+  message = messageAt (now (a .0)) (a .1 .0)
+
+  high-is : r / 2 ≡ remainder message
+  unfolding partOf parityOf
+  high-is = ap (λ (x : ℕ). x / 2) did ∙ half (remainder message) (atOne (outer message)) (at-one-lt (outer message))
+    where
+      half : (d p : ℕ) → p < 2 → (d * 2 + p) / 2 ≡ d
+      half d p h = omega arith
+
+  pub part-divides : Remainder 48 generator (num message * 2 ^ 48) (r / 2)
+  part-divides =
+      subst (λ (x : ℕ). Remainder 48 generator (num message * 2 ^ 48) x) (sym high-is) (remainder-is message (run-below (now (a .0)) (8 * a .1 .0) 3008))
+
+  pub part-sums : r % 2 ≡ atOne (message ++ bits 48 (r / 2))
+  unfolding partOf parityOf outer
+  part-sums =
+      ap (λ (x : ℕ). x % 2) did ∙ low (remainder message) (atOne (outer message)) (at-one-lt (outer message))
+      ∙ ap (λ (x : ℕ). atOne (message ++ bits 48 x)) (sym high-is)
+    where
+      low : (d p : ℕ) → p < 2 → (d * 2 + p) % 2 ≡ p
+      low d p h = omega arith
+
+-- after a call held(word)
+module _ (κs : Lfts 1) (a : ArgsD held.signature κs) (r : ResD held.signature κs) (s : AtExit (endedOf 1 held-kinds.ps held-kinds.r) κs)
+    (did : held-reads.Post κs a r s) where
+  -- the bit k is set exactly where the part k is sound
+  pub held-sound : (k : ℕ) → k < 4 → (r / 2 ^ k % 2 ≡ 1 → Sound (received (now (a .0)) k)) × (Sound (received (now (a .0)) k) → r / 2 ^ k % 2 ≡ 1)
+  held-sound k h =
+      let w : List ℕ = now (a .0) in
+      let m = meaning (received w k) (received-bits w k) in
+      let e : r / 2 ^ k % 2 ≡ heldOf w / 2 ^ k % 2 = ap (λ (x : ℕ). x / 2 ^ k % 2) did in
+      (λ t. m .0 (held-set w k h (sym e ∙ t)), λ t. e ∙ held-true w k h (m .1 t))
+
+  -- with the parity part of each part in its place all four hold
+  pub held-whole : ((k : ℕ) → k < 4 → number (bitAt (now (a .0))) (12032 + 49 * k) 49 ≡ partOf (now (a .0)) (376 * k)) → r ≡ 15
+  held-whole h = did ∙ held-all (now (a .0)) h
+
+  -- and of a part that holds any odd number of wrong bits is seen
+  pub held-odd : (κt : Lfts 1) (b : ArgsD held.signature κt) (q : ResD held.signature κt) (t : AtExit (endedOf 1 held-kinds.ps held-kinds.r) κt)
+      → held-reads.Post κt b q t → (k : ℕ) → k < 4 → r / 2 ^ k % 2 ≡ 1
+      → distance (received (now (a .0)) k) (received (now (b .0)) k) % 2 ≡ 1 → q / 2 ^ k % 2 ≡ 0
+  held-odd κt b q t p k h e o =
+      let w : List ℕ = now (a .0) in
+      let v : List ℕ = now (b .0) in
+      ap (λ (x : ℕ). x / 2 ^ k % 2) p
+      ∙ held-false v k h
+      (odd-seen (received w k) (received v k) (received-bits w k) (received-bits v k) (held-set w k h (sym (ap (λ (x : ℕ). x / 2 ^ k % 2) did) ∙ e)) o)
