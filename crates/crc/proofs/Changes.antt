@@ -24,7 +24,8 @@ odd-times zero g h e = let z : 0 * g % 2 ≡ 0 = rw zero-mul refl in z
 odd-times (suc zero) g h e = let z : 1 * g % 2 ≡ 1 = rw one-mul e in z
 odd-times (suc (suc t)) g h e = absurd (omega arith)
 
-shift-is : (top r : ℕ) → 0 < top → r * 2 % (top * 2) ≡ r % top * 2
+-- the register moved by one stage
+pub shift-is : (top r : ℕ) → 0 < top → r * 2 % (top * 2) ≡ r % top * 2
 shift-is top r h =
     let e : r * 2 / 2 ≡ r = omega arith in
     let z : r * 2 % 2 ≡ 0 = omega arith in

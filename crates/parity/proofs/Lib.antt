@@ -1,5 +1,6 @@
 pub mod Division
 pub mod Laws
+pub mod Steps
 pub mod Linear
 pub mod Register
 pub mod Sound

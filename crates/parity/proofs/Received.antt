@@ -4,16 +4,17 @@ use Prim.Native.Nat.{ℕ, _+_, _*_}
 use mathlib.Core.Path.{_≡_, sym, ap, ap₂, _∙_}
 use mathlib.Core.List.{List, _++_}
 use borrow.Author.Tests.{eqb-true, eq-eqb}
-use lib.Dec.{eqb}
+use lib.Dec.{eqb, lit≤}
 use lib.ListN.{drop, length-append}
 use lib.Seq.{take-at, drop-at}
 use Rattle.ground.specs.Table.{tab}
 use Rattle.ground.proofs.Choice.{same-test}
 use Rattle.ground.proofs.Table.{length-tab}
 use Rattle.bits.specs.Lists.{bits, num}
-use Rattle.bits.specs.Places.{bitAt, number}
+use Rattle.bits.specs.Places.{bitAt, number, fieldAt}
 use Rattle.bits.proofs.Below.{below-append}
 use Rattle.bits.proofs.Lists.{bits-num, num-bits}
+use Rattle.bits.proofs.Places.{number-append, field-is}
 use Rattle.bits.proofs.Joined.{run-below, num-tab}
 use Rattle.parity.specs.Part.{parityOf, codeword, parityHolds, messageAt, partOf, received}
 use Rattle.parity.specs.Claims.{Bits}
@@ -54,3 +55,12 @@ holds-at w k =
     let f : List ℕ = messageAt w (376 * k) in
     let b : List ℕ = tab (bitAt w) (12032 + 49 * k) 49 in
     holds-is f b (run w (8 * (376 * k)) 3008) (run w (12032 + 49 * k) 49) ∙ ap (λ (x : ℕ). eqb x (parityOf f)) (num-tab (bitAt w) (12032 + 49 * k) 49)
+
+-- the same of the 49 bits read in two fields
+pub holds-by : (w : List ℕ) (k v : ℕ) {at high low : ℕ} → high ≡ fieldAt w at 32 → low ≡ fieldAt w (at + 32) 17 → v ≡ partOf w (376 * k) → at ≡ 12032 + 49 * k
+    → parityHolds (received w k) ≡ eqb (high * 0x20000 + low) v
+holds-by w k v {at} {high} {low} h l e a =
+    let f : number (bitAt w) (12032 + 49 * k) 49 ≡ high * 0x20000 + low =
+    ap (λ (i : ℕ). number (bitAt w) i 49) (sym a) ∙ number-append (bitAt w) at 32 17
+    ∙ ap₂ (λ (x y : ℕ). x * 0x20000 + y) (sym (h ∙ field-is w at 32 (lit≤ tt))) (sym (l ∙ field-is w (at + 32) 17 (lit≤ tt))) in
+    holds-at w k ∙ ap₂ eqb f (sym e)
