@@ -1,16 +1,17 @@
 -- Laws of the number of ones in a list of bits, whole and modulo 2.
 -- Assumes nothing.
-use Prim.Native.Nat.{ℕ, zero, suc, _+_, _*_, _/_, _%_, _^_, _<_}
+use Prim.Native.Nat.{ℕ, zero, suc, _+_, _*_, _%_, _^_, _<_}
 use mathlib.Core.Path.{_≡_, refl, sym, ap, ap₂, _∙_}
 use mathlib.Core.List.{List, [], _∷_, _++_}
 use native.Mathlib.Nat.{add-assoc, zero-add, zero-div, add-mod}
 use native.Mathlib.Omega.{arith}
-use lib.Bits.{bitXor, xor-shr}
+use lib.Bits.{bitXor}
 use lib.ListN.{length}
 use Rattle.bits.specs.Lists.{bits}
 use Rattle.bits.specs.Sums.{added, ones}
+use Rattle.bits.proofs.Lists.{bits-length}
 use Rattle.bits.proofs.Numbers.{bits-join}
-use Rattle.bits.proofs.Sums.{xor-low}
+use Rattle.bits.proofs.Sums.{bits-xor}
 
 -- sums of numbers that are both even or both odd
 pub even-sum : (a b c d : ℕ) → a % 2 ≡ b % 2 → c % 2 ≡ d % 2 → (a + c) % 2 ≡ (b + d) % 2
@@ -34,20 +35,6 @@ ones-zero zero = refl
 ones-zero (suc n) = omega (arith, ones-zero n, zero-div (2 ^ n))
 
 -- of sums
-pub ones-xor : (n a b : ℕ) → ones (bits n (bitXor a b)) % 2 ≡ (ones (bits n a) + ones (bits n b)) % 2
-unfolding ones bits
-ones-xor zero a b = refl
-ones-xor (suc n) a b =
-    let e : bitXor a b / 2 ^ n % 2 ≡ (a / 2 ^ n + b / 2 ^ n) % 2 = ap (λ (x : ℕ). x % 2) (xor-shr a b n) ∙ xor-low (a / 2 ^ n) (b / 2 ^ n) in
-    more (bitXor a b / 2 ^ n % 2) (a / 2 ^ n) (b / 2 ^ n) (ones (bits n (bitXor a b))) (ones (bits n a)) (ones (bits n b)) e (ones-xor n a b)
-  where
-    more : (x y z s t u : ℕ) → x ≡ (y + z) % 2 → s % 2 ≡ (t + u) % 2 → (x + s) % 2 ≡ (y % 2 + t + (z % 2 + u)) % 2
-    more x y z s t u e f =
-        let l : x + s ≡ (y + z) % 2 + s = ap (λ (i : ℕ). i + s) e in
-        let m : y + z + (t + u) ≡ y + t + (z + u) = omega arith in
-        ap (λ (i : ℕ). i % 2) l ∙ even-sum ((y + z) % 2) (y + z) s (t + u) (mod-twice (y + z)) f ∙ ap (λ (i : ℕ). i % 2) m
-        ∙ sym (even-sum (y % 2 + t) (y + t) (z % 2 + u) (z + u) (even-sum (y % 2) y t t (mod-twice y) refl) (even-sum (z % 2) z u u (mod-twice z) refl))
-
 pub ones-added : (l m : List ℕ) → length l ≡ length m → ones (added l m) % 2 ≡ (ones l + ones m) % 2
 unfolding added ones
 ones-added [] [] e = refl
@@ -56,3 +43,6 @@ ones-added (a ∷ l) [] e = absurd (omega arith)
 ones-added (a ∷ l) (b ∷ m) e =
     let s : a + b + (ones l + ones m) ≡ a + ones l + (b + ones m) = omega arith in
     even-sum ((a + b) % 2) (a + b) (ones (added l m)) (ones l + ones m) (mod-twice (a + b)) (ones-added l m (omega arith)) ∙ ap (λ (x : ℕ). x % 2) s
+
+pub ones-xor : (n a b : ℕ) → ones (bits n (bitXor a b)) % 2 ≡ (ones (bits n a) + ones (bits n b)) % 2
+ones-xor n a b = ap (λ (l : List ℕ). ones l % 2) (bits-xor n a b) ∙ ones-added (bits n a) (bits n b) (bits-length n a ∙ sym (bits-length n b))

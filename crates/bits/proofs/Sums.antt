@@ -3,14 +3,14 @@
 use Prim.Native.Nat.{ℕ, zero, suc, _+_, _*_, _/_, _%_, _^_, _<_}
 use mathlib.Core.Path.{_≡_, refl, sym, ap, ap₂, _∙_, subst}
 use mathlib.Core.List.{List, [], _∷_}
-use native.Mathlib.Nat.{zero-mul, add-zero, add-assoc, mod-lt, mod-eq-of-lt}
+use native.Mathlib.Nat.{zero-mul, add-zero, add-assoc, add-mod, mod-lt, mod-eq-of-lt}
 use native.Mathlib.Omega.{arith}
 use lib.Arith.{bin-ind}
-use lib.Bits.{bitXor, differ, xor-step, xor-zero-l, xor-zero-r, xor-comm, xor-self, xor-block, xor-lt}
+use lib.Bits.{bitXor, differ, xor-step, xor-zero-l, xor-zero-r, xor-comm, xor-self, xor-block, xor-lt, xor-shr}
 use lib.Dec.{lit<}
 use lib.ListN.{length, getD}
 use lib.Pow.{pow-pos}
-use Rattle.bits.specs.Lists.{num, Below}
+use Rattle.bits.specs.Lists.{bits, num, Below}
 use Rattle.bits.specs.Sums.{added}
 use Rattle.bits.proofs.Lists.{num-lt}
 
@@ -29,7 +29,7 @@ xor-half a b = xor-step a b ∙ ap (λ (d : ℕ). bitXor (a / 2) (b / 2) * 2 + d
 xor-high : (a b : ℕ) → bitXor a b / 2 ≡ bitXor (a / 2) (b / 2)
 xor-high a b = omega (arith, xor-half a b)
 
-pub xor-low : (a b : ℕ) → bitXor a b % 2 ≡ (a + b) % 2
+xor-low : (a b : ℕ) → bitXor a b % 2 ≡ (a + b) % 2
 xor-low a b = omega (arith, xor-half a b)
 
 -- of two bits
@@ -135,3 +135,12 @@ num-added (a ∷ l) (b ∷ m) e v w =
     ∙ ap (λ (x : ℕ). x * 2 ^ n + bitXor (num l) (num m)) (sym (xor-bit a b (v .0) (w .0)))
     ∙ sym (xor-block n a b (num l) (num m) (num-lt l (v .1)) s)
     ∙ ap (λ (x : ℕ). bitXor (a * 2 ^ n + num l) (b * 2 ^ x + num m)) k
+
+-- and the bits of a sum are the sum of the bits
+pub bits-xor : (n a b : ℕ) → bits n (bitXor a b) ≡ added (bits n a) (bits n b)
+unfolding bits added
+bits-xor zero a b = refl
+bits-xor (suc n) a b =
+    ap₂ (λ (x : ℕ) (l : List ℕ). x ∷ l)
+    (ap (λ (x : ℕ). x % 2) (xor-shr a b n) ∙ xor-low (a / 2 ^ n) (b / 2 ^ n) ∙ add-mod (a / 2 ^ n) (b / 2 ^ n) 2)
+    (bits-xor n a b)

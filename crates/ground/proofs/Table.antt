@@ -2,7 +2,7 @@
 -- Assumes nothing.
 use mathlib.Core.Path.{_≡_, refl, sym, ap, ap₂, _∙_, subst}
 use mathlib.Core.Bool.{Bool}
-use mathlib.Core.List.{List, [], _∷_, _++_}
+use mathlib.Core.List.{List, [], _∷_, _++_, map}
 use Prim.Native.Nat.{ℕ, zero, suc, _+_, _-_, _≤_, _<_}
 use native.Mathlib.Nat.{add-zero, zero-add, add-suc, suc-add, sub-zero, suc-sub-suc, not-suc-le-zero}
 use native.Mathlib.Decide.{decLt}
@@ -37,6 +37,11 @@ tab-append f i zero n = ap₂ (tab f) (sym (add-zero i)) (zero-add n)
 tab-append f i (suc m) n =
     ap (tab f i) (suc-add m n)
     ∙ ap (λ l. f i ∷ l) (tab-append f (suc i) m n ∙ ap (λ (k : ℕ). tab f (suc i) m ++ tab f k n) (suc-add i m ∙ sym (add-suc i m)))
+
+pub map-tab : {A B : Type 0} (g : A → B) (f : ℕ → A) (i n : ℕ) → map g (tab f i n) ≡ tab (λ k. g (f k)) i n
+unfolding tab
+map-tab g f i zero = refl
+map-tab g f i (suc n) = ap (λ l. g (f i) ∷ l) (map-tab g f (suc i) n)
 
 -- a list of which every entry keeps the rule is the table of the rule
 pub tab-ext : {A : Type 0} (f : ℕ → A) (d : A) (n : ℕ) (l : List A) → length l ≡ n → ((k : ℕ) → k < n → getD l k d ≡ f k) → l ≡ tab f 0 n

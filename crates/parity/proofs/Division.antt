@@ -93,7 +93,7 @@ module _ (n g : ℕ) (least : 2 ^ n ≤ g) (most : g < 2 ^ suc n) where
               let m : suc q * 2 ^ suc n ≡ q * 2 ^ suc n + 2 ^ suc n = suc-mul q (2 ^ suc n) in
               omega (arith, pow-suc 2 n)
 
-  pub small-multiple : {p : ℕ} → Multiple g p → p < 2 ^ n → p ≡ 0
+  small-multiple : {p : ℕ} → Multiple g p → p < 2 ^ n → p ≡ 0
   small-multiple {p} m h =
       elim (degree (m .quotient)) [ none e ↦ m .product ∙ e | large k ↦ absurd (omega (arith, m .product)) ]
 

@@ -8,14 +8,16 @@ use native.Mathlib.Omega.{arith}
 use lib.Bits.{bitXor, xor-comm, xor-lt, xor-shifted}
 use lib.Dec.{lit<, lit≤}
 use lib.Pow.{pow-pos, pow-add, split, shl-lt}
-use lib.ListN.{length, replicate}
+use lib.ListN.{length, getD, replicate, length-append}
+use Rattle.ground.proofs.Table.{getD-tab}
 use Rattle.bits.specs.Lists.{num, Below}
 use Rattle.bits.specs.Sums.{ones}
 use Rattle.bits.proofs.Below.{below-append, below-replicate}
 use Rattle.bits.proofs.Lists.{num-append, num-lt, num-zeros}
 use Rattle.bits.proofs.Sums.{xor-assoc, xor-between, xor-swap, xor-scale}
 use Rattle.parity.specs.Division.{Remainder}
-use Rattle.parity.specs.Part.{powers, generator, remainder, atOne, outer, parityOf}
+use Rattle.parity.specs.Part.{powers, generator, remainder, atOne, outer, parityOf, partOf, partsOf}
+use Rattle.parity.specs.Claims.{Bits}
 use Rattle.parity.proofs.Division.{multiple-is, multiple-sum, multiple-scale, unique, divide-remainder}
 
 least : 2 ^ 48 ≤ generator
@@ -102,3 +104,14 @@ at-one-lt c = mod-lt (ones c) (lit< tt)
 pub part-lt : (m : List ℕ) → Below 2 m → parityOf m < 2 ^ 49
 unfolding parityOf
 part-lt m w = omega (arith, remainder-lt m w, at-one-lt (outer m))
+
+-- the part k of the four
+pub parts-at : (w l : List ℕ) (k : ℕ) → l ≡ partsOf w → k < 4 → getD l k 0 ≡ partOf w (376 * k)
+unfolding partsOf
+parts-at w l k e h =
+    ap (λ (x : List ℕ). getD x k 0) e ∙ getD-tab (λ j. partOf w (376 * j)) 0 0 4 k h ∙ ap (λ (j : ℕ). partOf w (376 * j)) (zero-add k)
+
+-- bits behind bits
+pub append-bits : {j k : ℕ} (a b : List ℕ) → Bits j a → Bits k b → Bits (j + k) (a ++ b)
+append-bits a b p q =
+    record { count = length-append a b ∙ ap₂ (λ (x y : ℕ). x + y) (p .count) (q .count); each = below-append 2 a b (p .each) (q .each) }

@@ -2,6 +2,7 @@ pub mod Division
 pub mod Laws
 pub mod Steps
 pub mod Linear
+pub mod Doubling
 pub mod Register
 pub mod Sound
 pub mod Received

@@ -1,9 +1,12 @@
--- Theorems about the functions' own promises: the part is a remainder and its parity bit, and which parts hold is which parts are sound;
--- an odd number of wrong bits is seen. Assumes nothing.
+-- Theorems about the functions' own promises: a part is a remainder and its parity bit, and which parts hold is which parts are sound;
+-- an odd number of wrong bits is seen.
+-- Assumes nothing.
 use Prim.Native.Nat.{ℕ, _+_, _*_, _/_, _%_, _^_, _<_}
 use mathlib.Core.Path.{_≡_, sym, ap, _∙_, subst}
+use mathlib.Core.Logic.{_↔_}
 use mathlib.Core.List.{List, _++_}
-use native.Mathlib.Omega.{arith}
+use lib.ListN.{getD}
+use lib.Pow.{high, low}
 use contract.Lifetimes.{Lfts}
 use borrow.Fn.World.{ArgsD, ResD}
 use borrow.Fn.Kinds.{endedOf}
@@ -15,48 +18,60 @@ use Rattle.bits.proofs.Joined.{run-below}
 use Rattle.parity.specs.Division.{Remainder}
 use Rattle.parity.specs.Part.{generator, remainder, atOne, outer, parityOf, messageAt, partOf, received, heldOf}
 use Rattle.parity.specs.Claims.{distance, Sound}
-use Rattle.parity.proofs.Laws.{remainder-is, at-one-lt}
+use Rattle.parity.proofs.Laws.{remainder-is, at-one-lt, parts-at}
 use Rattle.parity.proofs.Sound.{meaning, odd-seen}
 use Rattle.parity.proofs.Received.{received-bits}
 use Rattle.parity.proofs.Which.{held-set, held-true, held-false, held-all}
 use Rattle.parity.proofs.part as part
 use Rattle.parity.proofs.part.Kinds as part-kinds
 use Rattle.parity.proofs.part.Reads as part-reads
+use Rattle.parity.proofs.parts as parts
+use Rattle.parity.proofs.parts.Kinds as parts-kinds
+use Rattle.parity.proofs.parts.Reads as parts-reads
 use Rattle.parity.proofs.held as held
 use Rattle.parity.proofs.held.Kinds as held-kinds
 use Rattle.parity.proofs.held.Reads as held-reads
 
--- after a call part(word, from): d(x) and p0 of the 3,008 bits there
+-- a part is d(x) and p0 of the 3,008 bits there
+module _ (w : List ℕ) (from v : ℕ) (is : v ≡ partOf w from) where
+  abbrev message : List ℕ
+  message = messageAt w from
+
+  high-is : v / 2 ≡ remainder message
+  unfolding partOf parityOf
+  high-is = ap (λ (x : ℕ). x / 2) is ∙ high (remainder message) 1 (at-one-lt (outer message))
+
+  divides : Remainder 48 generator (num (messageAt w from) * 2 ^ 48) (v / 2)
+  divides = subst (λ (x : ℕ). Remainder 48 generator (num message * 2 ^ 48) x) (sym high-is) (remainder-is message (run-below w (8 * from) 3008))
+
+  sums : v % 2 ≡ atOne (messageAt w from ++ bits 48 (v / 2))
+  unfolding partOf parityOf outer
+  sums =
+      ap (λ (x : ℕ). x % 2) is ∙ low (remainder message) 1 (at-one-lt (outer message)) ∙ ap (λ (x : ℕ). atOne (message ++ bits 48 x)) (sym high-is)
+
+-- after a call part(word, from)
 module _ (κs : Lfts 1) (a : ArgsD part.signature κs) (r : ResD part.signature κs) (s : AtExit (endedOf 1 part-kinds.ps part-kinds.r) κs)
     (did : part-reads.Post κs a r s) where
-  abbrev message : List ℕ
-  message = messageAt (now (a .0)) (a .1 .0)
+  pub part-divides : Remainder 48 generator (num (messageAt (now (a .0)) (a .1 .0)) * 2 ^ 48) (r / 2)
+  part-divides = divides (now (a .0)) (a .1 .0) r did
 
-  high-is : r / 2 ≡ remainder message
-  unfolding partOf parityOf
-  high-is = ap (λ (x : ℕ). x / 2) did ∙ half (remainder message) (atOne (outer message)) (at-one-lt (outer message))
-    where
-      half : (d p : ℕ) → p < 2 → (d * 2 + p) / 2 ≡ d
-      half d p h = omega arith
+  pub part-sums : r % 2 ≡ atOne (messageAt (now (a .0)) (a .1 .0) ++ bits 48 (r / 2))
+  part-sums = sums (now (a .0)) (a .1 .0) r did
 
-  pub part-divides : Remainder 48 generator (num message * 2 ^ 48) (r / 2)
-  part-divides =
-      subst (λ (x : ℕ). Remainder 48 generator (num message * 2 ^ 48) x) (sym high-is) (remainder-is message (run-below (now (a .0)) (8 * a .1 .0) 3008))
+-- after a call parts(word)
+module _ (κs : Lfts 1) (a : ArgsD parts.signature κs) (r : ResD parts.signature κs) (s : AtExit (endedOf 1 parts-kinds.ps parts-kinds.r) κs)
+    (did : parts-reads.Post κs a r s) (k : ℕ) (one : k < 4) where
+  pub parts-divide : Remainder 48 generator (num (messageAt (now (a .0)) (376 * k)) * 2 ^ 48) (getD r k 0 / 2)
+  parts-divide = divides (now (a .0)) (376 * k) (getD r k 0) (parts-at (now (a .0)) r k did one)
 
-  pub part-sums : r % 2 ≡ atOne (message ++ bits 48 (r / 2))
-  unfolding partOf parityOf outer
-  part-sums =
-      ap (λ (x : ℕ). x % 2) did ∙ low (remainder message) (atOne (outer message)) (at-one-lt (outer message))
-      ∙ ap (λ (x : ℕ). atOne (message ++ bits 48 x)) (sym high-is)
-    where
-      low : (d p : ℕ) → p < 2 → (d * 2 + p) % 2 ≡ p
-      low d p h = omega arith
+  pub parts-sum : getD r k 0 % 2 ≡ atOne (messageAt (now (a .0)) (376 * k) ++ bits 48 (getD r k 0 / 2))
+  parts-sum = sums (now (a .0)) (376 * k) (getD r k 0) (parts-at (now (a .0)) r k did one)
 
 -- after a call held(word)
 module _ (κs : Lfts 1) (a : ArgsD held.signature κs) (r : ResD held.signature κs) (s : AtExit (endedOf 1 held-kinds.ps held-kinds.r) κs)
     (did : held-reads.Post κs a r s) where
   -- the bit k is set exactly where the part k is sound
-  pub held-sound : (k : ℕ) → k < 4 → (r / 2 ^ k % 2 ≡ 1 → Sound (received (now (a .0)) k)) × (Sound (received (now (a .0)) k) → r / 2 ^ k % 2 ≡ 1)
+  pub held-sound : (k : ℕ) → k < 4 → (r / 2 ^ k % 2 ≡ 1) ↔ Sound (received (now (a .0)) k)
   held-sound k h =
       let w : List ℕ = now (a .0) in
       let m = meaning (received w k) (received-bits w k) in

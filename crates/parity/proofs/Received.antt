@@ -5,32 +5,29 @@ use mathlib.Core.Path.{_≡_, sym, ap, ap₂, _∙_}
 use mathlib.Core.List.{List, _++_}
 use borrow.Author.Tests.{eqb-true, eq-eqb}
 use lib.Dec.{eqb, lit≤}
-use lib.ListN.{drop, length-append}
+use lib.ListN.{drop}
 use lib.Seq.{take-at, drop-at}
 use Rattle.ground.specs.Table.{tab}
 use Rattle.ground.proofs.Choice.{same-test}
 use Rattle.ground.proofs.Table.{length-tab}
 use Rattle.bits.specs.Lists.{bits, num}
 use Rattle.bits.specs.Places.{bitAt, number, fieldAt}
-use Rattle.bits.proofs.Below.{below-append}
 use Rattle.bits.proofs.Lists.{bits-num, num-bits}
 use Rattle.bits.proofs.Places.{number-append, field-is}
 use Rattle.bits.proofs.Joined.{run-below, num-tab}
 use Rattle.parity.specs.Part.{parityOf, codeword, parityHolds, messageAt, partOf, received}
 use Rattle.parity.specs.Claims.{Bits}
-use Rattle.parity.proofs.Laws.{part-lt}
+use Rattle.parity.proofs.Laws.{part-lt, append-bits}
 use Rattle.parity.proofs.Sound.{written, one-to-one}
 
 -- generator and parity bit both agree exactly where the 49 bits are the part of the message
-pub holds-is : (m q : List ℕ) → Bits 3008 m → Bits 49 q → parityHolds (m ++ q) ≡ eqb (num q) (parityOf m)
+holds-is : (m q : List ℕ) → Bits 3008 m → Bits 49 q → parityHolds (m ++ q) ≡ eqb (num q) (parityOf m)
 unfolding codeword
 holds-is m q b d =
     let v : ℕ = parityOf m in
-    let c : Bits 3057 (m ++ q) =
-    record { count = length-append m q ∙ ap₂ (λ (x y : ℕ). x + y) (b .count) (d .count); each = below-append 2 m q (b .each) (d .each) } in
     same-test (parityHolds (m ++ q)) (eqb (num q) v)
     (λ h.
-    let e : m ++ q ≡ m ++ bits 49 v = one-to-one (m ++ q) c h ∙ ap codeword (take-at m q 3008 (b .count)) in
+    let e : m ++ q ≡ m ++ bits 49 v = one-to-one (m ++ q) (append-bits m q b d) h ∙ ap codeword (take-at m q 3008 (b .count)) in
     let f : q ≡ bits 49 v = sym (drop-at m q 3008 (b .count)) ∙ ap (drop 3008) e ∙ drop-at m (bits 49 v) 3008 (b .count) in
     eq-eqb (num q) v (ap num f ∙ num-bits 49 v (part-lt m (b .each))))
     (λ h.
@@ -43,11 +40,7 @@ run w at n = record { count = length-tab (bitAt w) at n; each = run-below w at n
 pub received-bits : (w : List ℕ) (k : ℕ) → Bits 3057 (received w k)
 unfolding received
 received-bits w k =
-    let m = run w (8 * (376 * k)) 3008 in
-    let q = run w (12032 + 49 * k) 49 in
-    let f : List ℕ = messageAt w (376 * k) in
-    let b : List ℕ = tab (bitAt w) (12032 + 49 * k) 49 in
-    record { count = length-append f b ∙ ap₂ (λ (x y : ℕ). x + y) (m .count) (q .count); each = below-append 2 f b (m .each) (q .each) }
+    append-bits (messageAt w (376 * k)) (tab (bitAt w) (12032 + 49 * k) 49) (run w (8 * (376 * k)) 3008) (run w (12032 + 49 * k) 49)
 
 pub holds-at : (w : List ℕ) (k : ℕ) → parityHolds (received w k) ≡ eqb (number (bitAt w) (12032 + 49 * k) 49) (partOf w (376 * k))
 unfolding received partOf

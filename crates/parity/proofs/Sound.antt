@@ -1,5 +1,6 @@
 -- What it means that the parity holds: c_o(x) is a multiple of the generator and the sum of all bits is 0; the bits are a codeword; an
--- odd number of wrong bits is seen. Assumes nothing.
+-- odd number of wrong bits is seen.
+-- Assumes nothing.
 use Prim.Native.Nat.{ℕ, _+_, _*_, _%_, _^_, _<_}
 use mathlib.Core.Bool.{Bool, true, false}
 use mathlib.Core.Path.{_≡_, refl, sym, ap, ap₂, _∙_, subst}
@@ -15,7 +16,7 @@ use Rattle.ground.specs.Choice.{both}
 use Rattle.ground.proofs.Choice.{both-true}
 use Rattle.bits.specs.Lists.{bits, num, Below}
 use Rattle.bits.specs.Sums.{added, ones}
-use Rattle.bits.proofs.Below.{below-append, below-take, below-drop, below-get}
+use Rattle.bits.proofs.Below.{below-take, below-drop, below-get}
 use Rattle.bits.proofs.Lists.{bits-length, bits-below, bits-num, num-append, num-bits, num-lt}
 use Rattle.bits.proofs.Numbers.{bits-join, bits-one}
 use Rattle.bits.proofs.Ones.{ones-append, ones-added}
@@ -23,7 +24,7 @@ use Rattle.parity.specs.Division.{Remainder}
 use Rattle.parity.specs.Part.{generator, remainder, atOne, outer, parityOf, codeword, parityHolds}
 use Rattle.parity.specs.Claims.{Bits, distance, Division, Sound, Meaning, Written, OneToOne, SameMessage, OddSeen}
 use Rattle.parity.proofs.Division.{multiple-is}
-use Rattle.parity.proofs.Laws.{remainder-is, remainder-unique, remainder-lt, at-one-lt}
+use Rattle.parity.proofs.Laws.{remainder-is, remainder-unique, remainder-lt, at-one-lt, append-bits}
 
 pub division : Division
 division m w = record { is = remainder-is m w; only = λ r h. remainder-unique m r w h }
@@ -137,11 +138,7 @@ written m b =
     let v : ℕ = parityOf m in
     let r : ℕ = remainder m in
     let p : ℕ = atOne (outer m) in
-    let sized : Bits 3057 c =
-    record {
-      count = length-append m (bits 49 v) ∙ ap₂ (λ (x y : ℕ). x + y) (b .count) (bits-length 49 v);
-      each = below-append 2 m (bits 49 v) (b .each) (bits-below 49 v);
-    } in
+    let sized : Bits 3057 c = append-bits m (bits 49 v) b (record { count = bits-length 49 v; each = bits-below 49 v }) in
     let front : take 3008 c ≡ m = take-at m (bits 49 v) 3008 (b .count) in
     let before : take 3056 c ≡ outer m = ap (take 3056) (codeword-is m) ∙ take-at (outer m) (p ∷ []) 3056 (outer-length m (b .count)) in
     let end : getD c 3056 0 ≡ p = ap (λ (l : List ℕ). getD l 3056 0) (codeword-is m) ∙ getD-at (outer m) p [] 0 3056 (outer-length m (b .count)) in

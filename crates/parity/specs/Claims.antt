@@ -1,8 +1,10 @@
--- What is claimed of the parity part; each is proved in proofs/.
+-- What is asked of the parity part, as propositions. The theorems say that they hold, and some of them hold of the functions' own promises too
+-- (proofs/Promised.antt).
 -- Assumes nothing.
 use Prim.Native.Nat.{ℕ, _*_, _%_, _^_}
 use mathlib.Core.Bool.{true, false}
 use mathlib.Core.Path.{_≡_}
+use mathlib.Core.Logic.{_↔_}
 use mathlib.Core.List.{List}
 use lib.Bits.{bitXor}
 use lib.ListN.{length, take}
@@ -39,7 +41,7 @@ pub record Sound (c : List ℕ) : Type 0 where
   pub even : ones c % 2 ≡ 0
 
 abbrev pub Meaning : Type 0
-Meaning = (c : List ℕ) → Bits 3057 c → (parityHolds c ≡ true → Sound c) × (Sound c → parityHolds c ≡ true)
+Meaning = (c : List ℕ) → Bits 3057 c → (parityHolds c ≡ true) ↔ Sound c
 
 -- a codeword's parity holds
 abbrev pub Written : Type 0

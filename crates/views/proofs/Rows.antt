@@ -1,6 +1,6 @@
 -- Laws of rows by their places: how many they are and which, and within the bytes they are the rows that are cut of the bits.
 -- Assumes nothing.
-use Prim.Native.Nat.{ℕ, zero, suc, _+_, _*_, _≤_, _<_}
+use Prim.Native.Nat.{ℕ, suc, _+_, _*_, _≤_, _<_}
 use mathlib.Core.Path.{_≡_, refl, sym, ap, ap₂, _∙_}
 use mathlib.Core.List.{List, [], _∷_, _++_, map}
 use native.Mathlib.Nat.{add-zero, add-assoc, zero-add, mul-comm}
@@ -9,7 +9,7 @@ use native.Mathlib.Omega.{arith}
 use lib.ListN.{length, getD, take, drop}
 use lib.Seq.{drop-drop}
 use Rattle.ground.specs.Table.{tab}
-use Rattle.ground.proofs.Table.{length-tab, getD-tab, tab-snoc, tab-ext, tab-cong, take-tab}
+use Rattle.ground.proofs.Table.{length-tab, getD-tab, tab-snoc, map-tab, tab-ext, tab-cong, take-tab}
 use Rattle.bits.specs.Lists.{unpack}
 use Rattle.bits.specs.Places.{fieldAt, fieldsAt}
 use Rattle.bits.proofs.Joined.{field-num}
@@ -68,11 +68,6 @@ rows-are t w at n h r =
     within i l = let e : width t * suc i ≤ width t * n = native.Mathlib.Nat.mul-le-mul-left (width t) l in omega (arith, native.Mathlib.Nat.mul-suc (width t) i)
 
 -- ---- the first field of each row
-map-tab : {A B : Type 0} (g : A → B) (f : ℕ → A) (i n : ℕ) → map g (tab f i n) ≡ tab (λ k. g (f k)) i n
-unfolding tab
-map-tab g f i zero = refl
-map-tab g f i (suc n) = ap (λ l. g (f i) ∷ l) (map-tab g f (suc i) n)
-
 pub first-fields : (k : ℕ) (t : List ℕ) (apart n : ℕ) (w : List ℕ) (at : ℕ) → map (λ r. getD r 0 0) (rowsAt (k ∷ t) apart n w at) ≡ fieldsAt w at apart k n
 unfolding rowsAt rowAt rowFrom fieldsAt
 first-fields k t apart n w at =
