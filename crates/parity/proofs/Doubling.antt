@@ -15,9 +15,11 @@ use Rattle.parity.specs.Part.{parityOf}
 use Rattle.parity.specs.Steps.{byteParts}
 use Rattle.parity.proofs.Linear.{part-sum}
 
+-- the part of a message of one byte
 unfoldable pub bytePart : ℕ → ℕ
 bytePart k = parityOf (bits 8 k)
 
+-- a table, and behind it each entry with v added
 unfoldable pub grown : ℕ → List ℕ → List ℕ
 grown v l = l ++ map (bitXor v) l
 
@@ -32,6 +34,7 @@ byte-sum a b =
     ap parityOf (bits-xor 8 a b)
     ∙ part-sum (bits 8 a) (bits 8 b) (bits-length 8 a ∙ sym (bits-length 8 b)) (bits-below 8 a) (bits-below 8 b)
 
+-- the part of a byte with the bit n set above k
 behind : (n k : ℕ) → k < 2 ^ n → bytePart (2 ^ n + k) ≡ bitXor (bytePart (2 ^ n)) (bytePart k)
 behind n k h = ap bytePart (sym (ap (λ (x : ℕ). bitXor x k) (sym (one-mul (2 ^ n))) ∙ xor-shifted 1 n k h ∙ ap (λ (x : ℕ). x + k) (one-mul (2 ^ n)))) ∙ byte-sum (2 ^ n) k
 

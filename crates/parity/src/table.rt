@@ -2,8 +2,8 @@
 ghost use mathlib.Core.Path.{_≡_};
 ghost use Rattle.parity.specs.Steps.{byteParts};
 
-// Those of the bytes 0 to 255. The function that has them is called once and what it gives is lent on: a constant array that is named in a loop
-// is laid out anew in each turn.
+// Those of the bytes 0 to 255. A caller binds them once and lends them on, since a constant array that is named in a loop is laid out anew in each
+// turn.
 pub fn of_bytes() -> [u64; 256]
     ensures { λ r. ⌜ r ≡ byteParts ⌝ }
 {
