@@ -3,7 +3,7 @@
 use Prim.Native.Nat.{ℕ, zero, suc, _+_, _*_, _/_, _%_, _^_, _≤_, _<_}
 use mathlib.Core.Path.{_≡_, refl, sym, ap, ap₂, _∙_}
 use mathlib.Core.List.{List, [], _∷_, _++_}
-use native.Mathlib.Nat.{pow-suc, mul-assoc, mul-comm, add-mul, mul-add-mod-self-right, mul-add-div-right, mod-eq-of-lt, mod-one, zero-mul, lt-of-lt-of-le}
+use native.Mathlib.Nat.{pow-suc, mul-assoc, mul-comm, add-mul, mul-add-mod-self-right, mul-add-div-right, mod-eq-of-lt, mod-one, zero-mul, zero-add, suc-add, lt-of-lt-of-le}
 use native.Mathlib.Numerals.{one-add, add-one}
 use native.Mathlib.Omega.{arith}
 use lib.ListN.{length, getD, take, drop, replicate, length-append, length-take, length-drop, take-append-drop}
@@ -151,3 +151,16 @@ pack-front (suc n) l m h =
 pub pack-take : (n m : ℕ) (l : List ℕ) → 8 * n ≤ m → m ≤ length l → pack n (take m l) ≡ pack n l
 pack-take n m l h k =
     sym (pack-front n (take m l) (drop m l) (rw length-take (omega arith))) ∙ ap (pack n) (take-append-drop m l)
+
+-- whole bytes, and those behind them
+pub pack-append : (m n : ℕ) (a b : List ℕ) → length a ≡ 8 * m → pack (m + n) (a ++ b) ≡ pack m a ++ pack n b
+unfolding pack
+pack-append zero n [] b e = ap (λ (k : ℕ). pack k b) (zero-add n)
+pack-append zero n (x ∷ a) b e = absurd (omega arith)
+pack-append (suc m) n a b e =
+    let t : length (take 8 a) ≡ 8 = length-take-le 8 a (omega arith) in
+    let s : a ++ b ≡ take 8 a ++ (drop 8 a ++ b) = ap (λ (l : List ℕ). l ++ b) (sym (take-append-drop 8 a)) ∙ mathlib.Core.List.append-assoc (take 8 a) (drop 8 a) b in
+    ap (λ (k : ℕ). pack k (a ++ b)) (suc-add m n)
+    ∙ ap₂ (λ (x : ℕ) (y : List ℕ). x ∷ y)
+    (ap (λ (l : List ℕ). num (take 8 l)) s ∙ ap num (take-at (take 8 a) (drop 8 a ++ b) 8 t))
+    (ap (λ (l : List ℕ). pack (m + n) (drop 8 l)) s ∙ ap (pack (m + n)) (drop-at (take 8 a) (drop 8 a ++ b) 8 t) ∙ pack-append m n (drop 8 a) b (length-drop 8 a ∙ omega arith))

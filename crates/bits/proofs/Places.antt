@@ -2,11 +2,11 @@
 -- Assumes nothing.
 use Prim.Native.Nat.{ℕ, zero, suc, _+_, _-_, _*_, _/_, _%_, _^_, _≤_, _<_}
 use mathlib.Core.Path.{_≡_, refl, sym, ap, ap₂, _∙_, subst}
-use mathlib.Core.List.{List}
+use mathlib.Core.List.{List, _++_}
 use native.Mathlib.Nat.{pow-suc, zero-add, add-zero, add-suc, add-assoc, mul-add, mul-assoc}
 use native.Mathlib.Numerals.{add-one}
 use native.Mathlib.Omega.{arith}
-use lib.ListN.{length, getD, take, drop}
+use lib.ListN.{length, getD, take, drop, List·getD-append}
 use lib.Pow.{pow-pos, high}
 use borrow.Author.Tests.{le-ltb}
 use Rattle.ground.specs.Table.{tab}
@@ -99,3 +99,8 @@ fields-part w at step k n j m h =
     ∙ sym (tab-shift f j m)
     ∙ tab-cong (λ i. f (j + i)) (λ i. fieldAt w (at + step * j + step * i) k) 0 m
     (λ i l. ap (λ (x : ℕ). fieldAt w x k) (ap (λ (x : ℕ). at + x) (mul-add step j (0 + i)) ∙ sym (add-assoc at (step * j) (step * (0 + i)))))
+
+-- the bits of the bytes before others
+pub bit-front : (p l : List ℕ) (i : ℕ) → i < 8 * length p → bitAt (p ++ l) i ≡ bitAt p i
+unfolding bitAt
+bit-front p l i h = ap (λ (x : ℕ). x / 2 ^ (7 - i % 8) % 2) (List·getD-append p l 0 (i / 8) (omega arith))

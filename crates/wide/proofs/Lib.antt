@@ -1,2 +1,3 @@
 pub mod Widens
+pub mod Stores
 pub mod Agree
