@@ -34,7 +34,7 @@
 
 /* The version of this header and of the library that comes with it: numbers, and a text of them with dots. */
 #define OPL_VERSION_MAJOR 0
-#define OPL_VERSION_MINOR 2
+#define OPL_VERSION_MINOR 3
 #define OPL_VERSION_PATCH 0
 #define OPL_VERSION OPL_DOTTED(OPL_VERSION_MAJOR, OPL_VERSION_MINOR, OPL_VERSION_PATCH)
 
@@ -85,8 +85,9 @@ enum opl_refusal {
     OPL_SHEET_HEADER = 12, /* the sheet's header is wrong, or the sheet is shorter than 21 bytes */
     OPL_COUNTS = 13,       /* the sheet header's counts differ from what its records say */
     OPL_SECTION_TOP = 14,  /* the top four bits of a section in a sheet are not zero */
-    OPL_STREAM_TYPE = 15,  /* the stream type is not 0 or 1 */
-    OPL_ENCAP_VER = 16     /* Encap_Ver is not 0 */
+    OPL_STREAM_TYPE = 15,  /* the stream type is above 2 */
+    OPL_ENCAP_VER = 16,    /* Encap_Ver is not 0 */
+    OPL_PACKET_COUNT = 17  /* more than eight transport stream packets for one payload word */
 };
 
 /* The length of the start-of-frame preamble, in bytes. */
@@ -227,32 +228,60 @@ uint8_t opl_signalling_read(const uint8_t *word, size_t n, uint8_t *sheet, size_
  */
 uint8_t opl_signalling_write(const uint8_t *sheet, size_t n, uint8_t *word, size_t m);
 
-/* The length of a payload word, of the payload in it and of its header as it is read, in bytes. */
+/* The length of a payload word, of its payload for type 1 and of its header as it is read, in bytes. */
 #define OPL_PAYLOAD_WORD_BYTES 1536
 #define OPL_PAYLOAD_BYTES 1532
 #define OPL_PAYLOAD_HEADER_BYTES 16
 
+/* The length of a transport stream packet, how many a word of type 2 carries, and their length together. */
+#define OPL_TS_PACKET_BYTES 188
+#define OPL_TS_PACKETS 8
+#define OPL_TS_PAYLOAD_BYTES 1504
+
 /*
- * Writes a payload word (clauses 4.3.1 and 4.3.2): the payload, RFU and Encap_Ver as 0, the stream id
- * and the stream type, the CRC-8 of those 18 header bits, and six spare bits of zero.
+ * A payload word has its payload first and its header at the end (clauses 4.3.1 to 4.3.3), by stream type:
  *
- *   type      the stream type: 0 (dummy) or 1 (transparent)
- *   id        the stream id
- *   payload   n bytes, n = 0 for type 0 (OPL_EMPTY), whose 1,532 bytes become zero, and 1,532
- *             (OPL_PAYLOAD_BYTES) for type 1
- *   word      m bytes, m = 1,536 (OPL_PAYLOAD_WORD_BYTES)
+ *   type 0, dummy              1,532 bytes of zero; the header
+ *   type 1, transparent        1,532 bytes of payload; the header
+ *   type 2, transport stream   eight packets of 188 bytes; Parity_Parts, 4 x 49 bits; the header
+ *
+ * The header is RFU, 4 bits of types 0 and 1 and 32 bits of type 2, the stream id, 8, the stream type, 3, and
+ * Encap_Ver, 3. Behind it stand its CRC-8, over the 18 bits of types 0 and 1 and the 46 bits of type 2, and six
+ * spare bits of zero.
+ *
+ * The eight packets are four parts of two packets, 376 bytes each. The k-th 49 bits of Parity_Parts are the
+ * parity of part k: the 48 bits of the remainder of x^48 m(x) by the BCH generator, where m(x) has the part's
+ * 3,008 bits, and the sum of those and of the 48. The library detects errors by them, and corrects none.
+ */
+
+/*
+ * Writes a payload word, RFU and Encap_Ver as 0.
+ *
+ *   type          the stream type: 0 (dummy), 1 (transparent) or 2 (transport stream)
+ *   id            the stream id
+ *   count         of type 2, how many packets the payload has, 0 to 8 (OPL_TS_PACKETS); else not looked at
+ *   payload       n bytes, n = 0 for type 0 (OPL_EMPTY), 1,532 (OPL_PAYLOAD_BYTES) for type 1, and 188 x count
+ *                 for type 2
+ *   null_packet   of type 2, k bytes, k = 188 (OPL_TS_PACKET_BYTES), for every count: the packet that stands
+ *                 8 - count times behind the payload, whatever it holds; else not looked at (OPL_EMPTY)
+ *   word          m bytes, m = 1,536 (OPL_PAYLOAD_WORD_BYTES)
  *
  * Refusals, in this order:
  *
- *   OPL_STREAM_TYPE   type is not 0 or 1
- *   OPL_LENGTH        n is not the type's, or m is not 1,536
+ *   OPL_STREAM_TYPE    type is above 2
+ *   OPL_PACKET_COUNT   type is 2 and count is above 8
+ *   OPL_LENGTH         n is not the type's; type is 2 and k is not 188; or m is not 1,536
  */
-uint8_t opl_payload_write(uint32_t type, uint8_t id, const uint8_t *payload, size_t n, uint8_t *word,
-                          size_t m);
+uint8_t opl_payload_write(uint32_t type, uint8_t id, uint32_t count, const uint8_t *payload, size_t n,
+                          const uint8_t *null_packet, size_t k, uint8_t *word, size_t m);
+
+/* Byte 7 of a header whose four parts all hold. */
+#define OPL_PARITY_HOLDS 15
 
 /*
- * Reads the header of a payload word. The payload of an accepted word of type 1 is its first 1,532
- * bytes; a word of type 0 has none, whatever these bytes hold.
+ * Reads the header of a payload word. The payload of an accepted word is its first bytes, as they were
+ * received: of type 1 the first 1,532, of type 2 the first 1,504, which are eight packets, whatever the parity
+ * says. A word of type 0 has none, whatever its bytes hold.
  *
  *   word     n bytes, n = 1,536 (OPL_PAYLOAD_WORD_BYTES)
  *   header   m bytes, m = 16 (OPL_PAYLOAD_HEADER_BYTES):
@@ -260,15 +289,21 @@ uint8_t opl_payload_write(uint32_t type, uint8_t id, const uint8_t *payload, siz
  *              byte 4   the stream id
  *              byte 5   the stream type
  *              byte 6   Encap_Ver
- *              byte 7   nine bytes of zero, kept for what later stream types report
+ *              byte 7   parity, of type 2: bit k (value 2^k) is set where part k holds, that is, where the
+ *                       generator and the parity bit both agree; of types 0 and 1 zero
+ *              byte 8   eight bytes of zero, kept for what later stream types report
+ *
+ * What opl_payload_write has written is accepted, with all four parts holding. Where an odd number of the
+ * 3,057 bits of a part is then changed, just that part does not hold.
  *
  * Refusals, in this order:
  *
  *   OPL_LENGTH        n is not 1,536, or m is not 16
  *   OPL_SPARE         one of the word's last six bits is set
- *   OPL_CRC           the CRC-8 is not that of the 18 header bits
+ *   OPL_CRC           the CRC-8 is not that of the header: of its last 46 bits where the stream type's three
+ *                     bits are 2, and of its last 18 where they are any other number
  *   OPL_ENCAP_VER     Encap_Ver is not 0
- *   OPL_STREAM_TYPE   the stream type is not 0 or 1
+ *   OPL_STREAM_TYPE   the stream type is above 2
  */
 uint8_t opl_payload_read(const uint8_t *word, size_t n, uint8_t *header, size_t m);
 

@@ -36,8 +36,9 @@ static inline const char *opl_refusal_text(uint8_t number)
         "OPL_SHEET_HEADER: the sheet's header is wrong, or the sheet is cut short",
         "OPL_COUNTS: the sheet header's counts differ from what its records say",
         "OPL_SECTION_TOP: the top four bits of a section in a sheet are not zero",
-        "OPL_STREAM_TYPE: the stream type is not 0 or 1",
+        "OPL_STREAM_TYPE: the stream type is above 2",
         "OPL_ENCAP_VER: Encap_Ver is not 0",
+        "OPL_PACKET_COUNT: more than eight transport stream packets for one payload word",
     };
     return number < sizeof texts / sizeof texts[0] ? texts[number] : "a number that opl.h does not have";
 }

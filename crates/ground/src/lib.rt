@@ -1,4 +1,4 @@
-// What all crates share: the refusal numbers of document 01 and the sizes of the standard. Definitions and laws stand in specs/ and proofs/.
+// What all crates share: the refusal numbers of documents 01 and 02 and the sizes of the standard. Definitions and laws stand in specs/ and proofs/.
 
 // a lent length is wrong
 pub const LENGTH_WRONG: u8 = 1;
@@ -28,10 +28,12 @@ pub const HEADER_WRONG: u8 = 12;
 pub const COUNTS_DIFFER: u8 = 13;
 // a section's top bits set
 pub const TOP_BITS_SET: u8 = 14;
-// stream type not 0 or 1
+// stream type above 2
 pub const TYPE_UNKNOWN: u8 = 15;
 // Encap_Ver not 0
 pub const ENCAP_NOT_0: u8 = 16;
+// packet count above 8
+pub const COUNT_ABOVE_8: u8 = 17;
 
 // the block sizes, in bits (clause 4.4.2), and the words that carry them, in bytes, with their six spare bits
 pub const PAYLOAD_BLOCK: usize = 12282;

@@ -1,14 +1,23 @@
--- The way back of payload words, of the exported functions' own promises.
+-- The way back of payload words, and what is read of a damaged one, of the exported functions' own promises.
 -- Assumes nothing.
+use Prim.Native.Nat.{ℕ, _/_, _%_, _^_, _<_}
 use mathlib.Core.Path.{_≡_}
+use mathlib.Core.Logic.{_↔_}
+use mathlib.Core.List.{List}
 use contract.Lifetimes.{Lfts}
 use borrow.Fn.World.{ArgsD, ResD}
 use borrow.Fn.Kinds.{endedOf}
 use denote.Ref.{now}
 use denote.Triple.Clauses.{AtExit}
-use lib.ListN.{length, take}
-use Rattle.payload.specs.Answers.{headerBytes}
+use lib.ListN.{length, getD, take}
+use Rattle.parity.specs.Part.{received}
+use Rattle.parity.specs.Claims.{Sound}
+use Rattle.infoword.specs.Word.{packetBytes}
+use Rattle.encapsulation.specs.Writing.{packetOf}
+use Rattle.payload.specs.Answers.{writtenHeader, headerBytes}
+use Rattle.payload.specs.Damage.{OneBit, OddIn, PartSeenIn}
 use Rattle.payload.proofs.WaysBack.{header-after, packet-after}
+use Rattle.payload.proofs.InBytes.{into-damaged, into-means, into-part-seen}
 use Rattle.opl.proofs.opl_payload_write as opl-payload-write
 use Rattle.opl.proofs.opl_payload_write.Kinds as opl-payload-write-kinds
 use Rattle.opl.proofs.opl_payload_write.Reads as opl-payload-write-reads
@@ -16,21 +25,43 @@ use Rattle.opl.proofs.opl_payload_read as opl-payload-read
 use Rattle.opl.proofs.opl_payload_read.Kinds as opl-payload-read-kinds
 use Rattle.opl.proofs.opl_payload_read.Reads as opl-payload-read-reads
 
--- after a call opl_payload_write(kind, id, payload, word) that answered 0, opl_payload_read(word, header) with 16 bytes answers 0
--- and leaves RFU 0, id, kind and Encap_Ver 0
-pub opl-payload-back : (κs : Lfts 2) (a : ArgsD opl-payload-write.signature κs) (r : ResD opl-payload-write.signature κs)
-    (s : AtExit (endedOf 2 opl-payload-write-kinds.ps opl-payload-write-kinds.r) κs)
-    (κt : Lfts 2) (b : ArgsD opl-payload-read.signature κt) (n : ResD opl-payload-read.signature κt)
-    (t : AtExit (endedOf 2 opl-payload-read-kinds.ps opl-payload-read-kinds.r) κt)
-    → opl-payload-write-reads.Post κs a r s → r ≡ 0
-    → now (b .0) ≡ now (s .1 .1 .1 .0) → length (now (b .1 .0)) ≡ 16 → opl-payload-read-reads.Post κt b n t
-    → (n ≡ 0) × (now (t .1 .0) ≡ headerBytes 0 (a .1 .0) (a .0) 0)
-opl-payload-back κs a r s κt b n t did zero e l p =
-    header-after (a .0) (a .1 .0) (now (a .1 .1 .0)) (now (a .1 .1 .1 .0)) (now (s .1 .1 .1 .0)) r (did .0) zero (did .1)
-    (now (b .0)) (now (b .1 .0)) (now (t .1 .0)) n e l p
+-- after a call opl_payload_write(kind, id, count, payload, null, word) that answered 0
+module _ (κs : Lfts 3) (a : ArgsD opl-payload-write.signature κs) (r : ResD opl-payload-write.signature κs)
+    (s : AtExit (endedOf 3 opl-payload-write-kinds.ps opl-payload-write-kinds.r) κs) (did : opl-payload-write-reads.Post κs a r s) (zero : r ≡ 0) where
+  abbrev left : List ℕ
+  left = now (s .1 .1 .1 .1 .1 .0)
 
--- after such a call with type 1 the first 1,532 bytes of the word are the payload
-pub opl-payload-kept : (κs : Lfts 2) (a : ArgsD opl-payload-write.signature κs) (r : ResD opl-payload-write.signature κs)
-    (s : AtExit (endedOf 2 opl-payload-write-kinds.ps opl-payload-write-kinds.r) κs)
-    → opl-payload-write-reads.Post κs a r s → r ≡ 0 → a .0 ≡ 1 → take 1532 (now (s .1 .1 .1 .0)) ≡ now (a .1 .1 .0)
-opl-payload-kept κs a r s did = packet-after (a .0) (a .1 .0) (now (a .1 .1 .0)) (now (a .1 .1 .1 .0)) (now (s .1 .1 .1 .0)) r (did .0)
+  -- opl_payload_read(word, header) with 16 bytes answers 0 and leaves RFU 0, id, kind, Encap_Ver 0, and for type 2 that all four parts hold
+  pub opl-payload-back : (κt : Lfts 2) (b : ArgsD opl-payload-read.signature κt) (n : ResD opl-payload-read.signature κt)
+      (t : AtExit (endedOf 2 opl-payload-read-kinds.ps opl-payload-read-kinds.r) κt)
+      → now (b .0) ≡ left → length (now (b .1 .0)) ≡ 16 → opl-payload-read-reads.Post κt b n t
+      → (n ≡ 0) × (now (t .1 .0) ≡ headerBytes (writtenHeader (a .0) (a .1 .0)))
+  opl-payload-back κt b n t e l p =
+      header-after (a .0) (a .1 .0) (a .1 .1 .0) (now (a .1 .1 .1 .0)) (now (a .1 .1 .1 .1 .0)) (now (a .1 .1 .1 .1 .1 .0)) r left (did .0) zero (did .1)
+      (now (b .0)) (now (b .1 .0)) (now (t .1 .0)) n e l (p .0)
+
+  -- and the word begins with the payload, for type 2 with the null packets behind it
+  pub opl-payload-kept : take (packetBytes (a .0)) left ≡ packetOf (a .0) (a .1 .1 .0) (now (a .1 .1 .1 .0)) (now (a .1 .1 .1 .1 .0))
+  opl-payload-kept = packet-after (a .0) (a .1 .0) (a .1 .1 .0) (now (a .1 .1 .1 .0)) (now (a .1 .1 .1 .1 .0)) (now (a .1 .1 .1 .1 .1 .0)) r left (did .0) zero (did .1)
+
+-- after a call opl_payload_read(word, header) that answered 0, and another call of it with 16 bytes
+module _ (κs : Lfts 2) (a : ArgsD opl-payload-read.signature κs) (r : ResD opl-payload-read.signature κs)
+    (s : AtExit (endedOf 2 opl-payload-read-kinds.ps opl-payload-read-kinds.r) κs) (did : opl-payload-read-reads.Post κs a r s) (zero : r ≡ 0) where
+  abbrev header : List ℕ
+  header = now (s .1 .0)
+
+  module _ (κt : Lfts 2) (b : ArgsD opl-payload-read.signature κt) (n : ResD opl-payload-read.signature κt)
+      (t : AtExit (endedOf 2 opl-payload-read-kinds.ps opl-payload-read-kinds.r) κt) (room : length (now (b .1 .0)) ≡ 16) (p : opl-payload-read-reads.Post κt b n t) where
+    -- of a word with one other header bit: it is refused with 5, and nothing is touched
+    pub opl-refused-where-damaged : (i : ℕ) → OneBit (now (a .0)) (now (b .0)) i → (n ≡ 5) × (now (t .1 .0) ≡ now (b .1 .0))
+    opl-refused-where-damaged i d =
+        into-damaged (now (a .0)) (now (a .1 .0)) r header (did .0) zero (now (b .0)) (now (b .1 .0)) n (now (t .1 .0)) i d room (p .0)
+
+    -- of a word with an odd number of other bits within part k, which held: just part k is reported as not holding
+    pub opl-part-seen : getD header 5 0 ≡ 2 → (k : ℕ) → getD header 7 0 / 2 ^ k % 2 ≡ 1 → OddIn (now (a .0)) (now (b .0)) k → PartSeenIn header n (now (t .1 .0)) k
+    opl-part-seen two k set d =
+        into-part-seen (now (a .0)) (now (a .1 .0)) r header (did .0) zero two (now (b .0)) (now (b .1 .0)) n (now (t .1 .0)) k set d room (p .0)
+
+  -- bit k of byte 7 is set exactly where generator and parity bit of part k both agree
+  pub opl-parity-means : getD header 5 0 ≡ 2 → (k : ℕ) → k < 4 → (getD header 7 0 / 2 ^ k % 2 ≡ 1) ↔ Sound (received (now (a .0)) k)
+  opl-parity-means two = into-means (now (a .0)) (now (a .1 .0)) r header (did .0) zero two

@@ -8,7 +8,8 @@ ghost use Rattle.ground.specs.Outcome.{Is, numberOf};
 ghost use Rattle.bits.specs.Lists.{Below};
 ghost use Rattle.description.specs.Word.{reading};
 ghost use Rattle.description.specs.Form1.{writing};
-ghost use Rattle.payload.specs.Answers.{written as payloadWritten, readInto};
+ghost use Rattle.encapsulation.specs.Writing.{written as payloadWritten};
+ghost use Rattle.payload.specs.Answers.{readInto};
 ghost use Rattle.turbo.specs.Encode.{encoded};
 ghost use Rattle.placement.specs.Place.{placing};
 ghost use Rattle.preamble.specs.Preamble.{written};
@@ -49,18 +50,25 @@ pub extern "C" fn opl_signalling_read(word: &[u8], sheet: &mut [u8]) -> u8
     }
 }
 
-// A payload word of stream type 0 or 1 into 1,536 bytes.
+// A payload word of stream type 0, 1 or 2 into 1,536 bytes.
 #[no_mangle]
-pub extern "C" fn opl_payload_write(kind: u32, id: u8, payload: &[u8], word: &mut [u8]) -> u8
-    ensures { λ r. ⌜ Is (payloadWritten kind id (now (payload .entry)) (now (word .entry))) r (now (word .exit)) × (id < 256) ⌝ }
+pub extern "C" fn opl_payload_write(
+    kind: u32,
+    id: u8,
+    count: u32,
+    payload: &[u8],
+    null: &[u8],
+    word: &mut [u8],
+) -> u8
+    ensures { λ r. ⌜ Is (payloadWritten kind id count (now (payload .entry)) (now (null .entry)) (now (word .entry))) r (now (word .exit)) × (id < 256) ⌝ }
 {
-    payload::write(kind, id, payload, word)
+    encapsulation::write(kind, id, count, payload, null, word)
 }
 
 // The header of a payload word into 16 bytes.
 #[no_mangle]
 pub extern "C" fn opl_payload_read(word: &[u8], header: &mut [u8]) -> u8
-    ensures { λ r. ⌜ Is (readInto (now (word .entry)) (now (header .entry))) r (now (header .exit)) ⌝ }
+    ensures { λ r. ⌜ Is (readInto (now (word .entry)) (now (header .entry))) r (now (header .exit)) × Below 256 (now (word .entry)) ⌝ }
 {
     payload::read_into(word, header)
 }

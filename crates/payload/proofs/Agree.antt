@@ -8,9 +8,6 @@ use denote.Ref.{now}
 use denote.Triple.Clauses.{AtExit}
 use Rattle.ground.proofs.Outcome.{same, agree}
 use Rattle.payload.proofs.Answers.{told-inj}
-use Rattle.payload.proofs.write as write
-use Rattle.payload.proofs.write.Kinds as write-kinds
-use Rattle.payload.proofs.write.Reads as write-reads
 use Rattle.payload.proofs.read as read
 use Rattle.payload.proofs.read.Kinds as read-kinds
 use Rattle.payload.proofs.read.Reads as read-reads
@@ -20,11 +17,6 @@ use Rattle.payload.proofs.payload_of.Reads as payload-of-reads
 use Rattle.payload.proofs.read_into as read-into
 use Rattle.payload.proofs.read_into.Kinds as read-into-kinds
 use Rattle.payload.proofs.read_into.Reads as read-into-reads
-
-module _ (κs : Lfts 2) (a : ArgsD write.signature κs) where
-  pub write-agrees : (r r′ : ResD write.signature κs) (s s′ : AtExit (endedOf 2 write-kinds.ps write-kinds.r) κs) →
-      write-reads.Post κs a r s → write-reads.Post κs a r′ s′ → (r ≡ r′) × (now (s .1 .1 .1 .0) ≡ now (s′ .1 .1 .1 .0))
-  write-agrees r r′ s s′ p q = agree (p .0) (q .0)
 
 module _ (κs : Lfts 1) (a : ArgsD read.signature κs) where
   pub read-agrees : (r r′ : ResD read.signature κs) (s s′ : AtExit (endedOf 1 read-kinds.ps read-kinds.r) κs) →
@@ -39,4 +31,4 @@ module _ (κs : Lfts 1) (a : ArgsD payload-of.signature κs) where
 module _ (κs : Lfts 2) (a : ArgsD read-into.signature κs) where
   pub read-into-agrees : (r r′ : ResD read-into.signature κs) (s s′ : AtExit (endedOf 2 read-into-kinds.ps read-into-kinds.r) κs) →
       read-into-reads.Post κs a r s → read-into-reads.Post κs a r′ s′ → (r ≡ r′) × (now (s .1 .0) ≡ now (s′ .1 .0))
-  read-into-agrees r r′ s s′ p q = agree p q
+  read-into-agrees r r′ s s′ p q = agree (p .0) (q .0)

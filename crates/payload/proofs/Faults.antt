@@ -1,4 +1,4 @@
--- Laws of the refusals: the facts that lead to each number, and what a number says.
+-- Laws of the reader's refusals: the facts that lead to each number, and what a number says.
 -- Assumes nothing.
 use Prim.Native.Nat.{ℕ, _≤_, _<_}
 use mathlib.Core.Path.{_≡_}
@@ -7,38 +7,8 @@ use native.Mathlib.Omega.{arith}
 use borrow.Author.Tests.{eq-eqb, ne-eqb, lt-ltb, le-ltb, ltb-false}
 use lib.ListN.{length}
 use Rattle.ground.proofs.Choice.{no-difference, all-clear}
-use Rattle.payload.specs.Suffix.{kindOf, versionOf, crcFieldOf, spareOf, coveredOf, headerCrc}
-use Rattle.payload.specs.Word.{packetBytes}
-use Rattle.payload.specs.Answers.{writeFaults, writeRefusal, readFaults, readRefusal}
-
--- what the writer asks, with the lengths of the packet and of the word
-pub record Writable (kind packet word : ℕ) : Type 0 where
-  pub kind-is : kind ≤ 1
-  pub packet-is : packet ≡ packetBytes kind
-  pub word-is : word ≡ 1536
-
-module _ (kind packet word : ℕ) where
-  pub write-15 : 1 < kind → 15 ≡ writeRefusal kind packet word
-  unfolding writeRefusal
-  write-15 h = simp lt-ltb
-
-  pub write-1 : kind ≤ 1 → (packet ≡ packetBytes kind → ⊥) → 1 ≡ writeRefusal kind packet word
-  unfolding writeRefusal
-  write-1 h k = simp (le-ltb, ne-eqb)
-
-  pub write-1-word : kind ≤ 1 → packet ≡ packetBytes kind → (word ≡ 1536 → ⊥) → 1 ≡ writeRefusal kind packet word
-  unfolding writeRefusal
-  write-1-word h k l = simp (le-ltb, eq-eqb, ne-eqb)
-
-  pub write-0 : Writable kind packet word → 0 ≡ writeRefusal kind packet word
-  unfolding writeRefusal
-  write-0 a = simp (le-ltb _ _ (a .kind-is), eq-eqb _ _ (a .packet-is), eq-eqb _ _ (a .word-is))
-
-  pub writable : writeRefusal kind packet word ≡ 0 → Writable kind packet word
-  unfolding writeRefusal
-  writable e =
-      let a = all-clear (writeFaults kind packet word) tt e in
-      record { kind-is = ltb-false _ _ (a .0); packet-is = no-difference _ _ (a .1 .0); word-is = no-difference _ _ (a .1 .1 .0) }
+use Rattle.infoword.specs.Suffix.{kindOf, versionOf, crcFieldOf, spareOf, coveredOf, headerCrc}
+use Rattle.payload.specs.Answers.{readFaults, readRefusal}
 
 -- what the reader asks
 pub record Readable (w : List ℕ) : Type 0 where
@@ -46,7 +16,7 @@ pub record Readable (w : List ℕ) : Type 0 where
   pub spare-is : spareOf w ≡ 0
   pub crc-is : crcFieldOf w ≡ headerCrc (coveredOf w)
   pub version-is : versionOf w ≡ 0
-  pub kind-is : kindOf w ≤ 1
+  pub kind-is : kindOf w ≤ 2
 
 module _ (w : List ℕ) where
   pub read-1 : (length w ≡ 1536 → ⊥) → 1 ≡ readRefusal w
@@ -69,7 +39,7 @@ module _ (w : List ℕ) where
         read-16 h = let n : versionOf w ≡ 0 → ⊥ = λ e. omega arith in simp (eq-eqb, ne-eqb)
 
         module _ (version : versionOf w ≡ 0) where
-          pub read-15 : 1 < kindOf w → 15 ≡ readRefusal w
+          pub read-15 : 2 < kindOf w → 15 ≡ readRefusal w
           unfolding readRefusal
           read-15 h = simp (eq-eqb, lt-ltb)
 

@@ -1,9 +1,8 @@
-pub mod Stores
-pub mod LastBytes
-pub mod Writing
 pub mod Faults
 pub mod Answers
+pub mod Stores
 pub mod WaysBack
 pub mod Damage
+pub mod InBytes
 pub mod Promised
 pub mod Agree

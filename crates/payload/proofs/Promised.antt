@@ -1,27 +1,38 @@
--- Theorems about the functions' own promises: what is read after a write, what is written after a reading, and a word with a damaged header.
--- That a stream id and the bytes of a word are bytes, the promises hand out.
+-- Theorems about the functions' own promises: what is read after a write, what is written after a reading, and what is read of a word with a
+-- damaged header or a damaged part. That a stream id and the bytes of a word are bytes, the promises hand out.
 -- Assumes nothing.
-use Prim.Native.Nat.{ℕ, _+_, _<_}
-use mathlib.Core.Path.{_≡_, sym, ap, _∙_}
+use Prim.Native.Nat.{ℕ, _/_, _%_, _^_, _<_}
+use mathlib.Core.Path.{_≡_, refl, sym, ap, _∙_}
+use mathlib.Core.Logic.{_↔_}
 use mathlib.Core.List.{List}
 use native.Mathlib.Omega.{arith}
 use contract.Lifetimes.{Lfts}
+use borrow.Author.Tests.{eq-eqb}
 use borrow.Fn.World.{ArgsD, ResD}
 use borrow.Fn.Kinds.{endedOf}
 use denote.Ref.{now}
 use denote.Triple.Clauses.{AtExit}
-use lib.ListN.{length, drop}
-use Rattle.bits.specs.Places.{bitAt}
-use Rattle.payload.specs.Word.{wordOf}
-use Rattle.payload.specs.Answers.{told, reading, shown, headerBytes}
-use Rattle.payload.specs.declared.Header.the-variants.{Fields, Refused}
-use Rattle.payload.proofs.Faults.{Writable, readable}
-use Rattle.payload.proofs.Answers.{tells-refusal, fields-told, told-inj, writes, wrote}
-use Rattle.payload.proofs.WaysBack.{header-back, packet-back, header-after, write-again}
-use Rattle.payload.proofs.Damage.{damaged}
-use Rattle.payload.proofs.write as write
-use Rattle.payload.proofs.write.Kinds as write-kinds
-use Rattle.payload.proofs.write.Reads as write-reads
+use lib.ListN.{length, take, drop}
+use Rattle.ground.proofs.Choice.{choose-true}
+use Rattle.parity.specs.Part.{received, heldOf}
+use Rattle.parity.specs.Claims.{Sound}
+use Rattle.parity.proofs.Sound.{meaning}
+use Rattle.parity.proofs.Received.{received-bits}
+use Rattle.parity.proofs.Which.{held-set, held-true}
+use Rattle.infoword.specs.Suffix.{kindOf}
+use Rattle.infoword.proofs.Written.{packet-2}
+use Rattle.encapsulation.specs.Writing.{packetOf}
+use Rattle.encapsulation.proofs.write as write
+use Rattle.encapsulation.proofs.write.Kinds as write-kinds
+use Rattle.encapsulation.proofs.write.Reads as write-reads
+use Rattle.payload.specs.Answers.{readRefusal, parityOf, headerOf, writtenHeader, told, reading, shown, headerBytes}
+use Rattle.payload.specs.Damage.{OneBit, OddIn, PartSeen}
+use Rattle.payload.specs.declared.Header.{Header}
+use Rattle.payload.specs.declared.Reading.the-variants.{Accepted, Refused}
+use Rattle.payload.proofs.Faults.{Readable, read-0, readable}
+use Rattle.payload.proofs.Answers.{tells-refusal, tells-header, header-told, shows, told-inj}
+use Rattle.payload.proofs.WaysBack.{header-told-after, header-after, shown-after, write-again}
+use Rattle.payload.proofs.Damage.{damaged, same-behind, part-fails, others-stay, still-readable, same-rfu}
 use Rattle.payload.proofs.read as read
 use Rattle.payload.proofs.read.Kinds as read-kinds
 use Rattle.payload.proofs.read.Reads as read-reads
@@ -32,63 +43,116 @@ use Rattle.payload.proofs.read_into as read-into
 use Rattle.payload.proofs.read_into.Kinds as read-into-kinds
 use Rattle.payload.proofs.read_into.Reads as read-into-reads
 
--- after a call write(kind, id, payload, word) that answered 0
-module _ (κs : Lfts 2) (a : ArgsD write.signature κs) (r : ResD write.signature κs) (s : AtExit (endedOf 2 write-kinds.ps write-kinds.r) κs)
+-- after a call write(kind, id, count, payload, null, word) that answered 0
+module _ (κs : Lfts 3) (a : ArgsD write.signature κs) (r : ResD write.signature κs) (s : AtExit (endedOf 3 write-kinds.ps write-kinds.r) κs)
     (did : write-reads.Post κs a r s) (zero : r ≡ 0) where
-  could : Writable (a .0) (length (now (a .1 .1 .0))) (length (now (a .1 .1 .1 .0)))
-  could = wrote (a .0) (a .1 .0) (now (a .1 .1 .0)) (now (a .1 .1 .1 .0)) r (now (s .1 .1 .1 .0)) (did .0) zero
+  abbrev kind : ℕ
+  kind = a .0
 
-  left : now (s .1 .1 .1 .0) ≡ wordOf (a .0) (a .1 .0) (now (a .1 .1 .0))
-  left = writes (a .0) (a .1 .0) (now (a .1 .1 .0)) (now (a .1 .1 .1 .0)) r (now (s .1 .1 .1 .0)) (did .0) could .1
+  abbrev id : ℕ
+  id = a .1 .0
 
-  -- read(word) gives id and kind, and RFU 0
+  abbrev left : List ℕ
+  left = now (s .1 .1 .1 .1 .1 .0)
+
+  -- read(word) gives id and kind, RFU and Encap_Ver 0, and of type 2 that all four parts hold
   pub read-after-write : (κt : Lfts 1) (b : ArgsD read.signature κt) (h : ResD read.signature κt) (t : AtExit (endedOf 1 read-kinds.ps read-kinds.r) κt)
-      → now (b .0) ≡ now (s .1 .1 .1 .0) → read-reads.Post κt b h t → h ≡ Fields 0 (a .1 .0) (a .0)
+      → now (b .0) ≡ left → read-reads.Post κt b h t → h ≡ Accepted (writtenHeader kind id)
   read-after-write κt b h t e p =
-      told-inj h (Fields 0 (a .1 .0) (a .0))
-      (p .0 ∙ ap reading (e ∙ left) ∙ sym (header-back (a .0) (a .1 .0) (now (a .1 .1 .0)) (could .kind-is) (did .1) (could .packet-is)))
+      told-inj h (Accepted (writtenHeader kind id))
+      (p .0 ∙ ap reading e ∙ sym (header-told-after kind id (a .1 .1 .0) (now (a .1 .1 .1 .0)) (now (a .1 .1 .1 .1 .0)) (now (a .1 .1 .1 .1 .1 .0)) r left (did .0) zero (did .1)))
 
-  -- payload_of(word) gives the payload
+  -- payload_of(word) gives the payload, of type 2 with the null packets behind it
   pub payload-after-write : (κt : Lfts 1) (b : ArgsD payload-of.signature κt) (q : ResD payload-of.signature κt)
       (t : AtExit (endedOf 1 payload-of-kinds.ps payload-of-kinds.r) κt)
-      → now (b .0) ≡ now (s .1 .1 .1 .0) → payload-of-reads.Post κt b q t → now q ≡ now (a .1 .1 .0)
+      → now (b .0) ≡ left → payload-of-reads.Post κt b q t → now q ≡ packetOf kind (a .1 .1 .0) (now (a .1 .1 .1 .0)) (now (a .1 .1 .1 .1 .0))
   payload-after-write κt b q t e p =
-      p ∙ ap shown (e ∙ left) ∙ packet-back (a .0) (a .1 .0) (now (a .1 .1 .0)) (could .kind-is) (did .1) (could .packet-is)
+      p ∙ ap shown e ∙ shown-after kind id (a .1 .1 .0) (now (a .1 .1 .1 .0)) (now (a .1 .1 .1 .1 .0)) (now (a .1 .1 .1 .1 .1 .0)) r left (did .0) zero (did .1)
 
-  -- read_into(word, header) answers 0 and leaves the header in a lent 16 bytes
+  -- read_into(word, header) answers 0 and leaves that header in a lent 16 bytes
   pub read-into-after-write : (κt : Lfts 2) (b : ArgsD read-into.signature κt) (n : ResD read-into.signature κt)
       (t : AtExit (endedOf 2 read-into-kinds.ps read-into-kinds.r) κt)
-      → now (b .0) ≡ now (s .1 .1 .1 .0) → length (now (b .1 .0)) ≡ 16 → read-into-reads.Post κt b n t
-      → (n ≡ 0) × (now (t .1 .0) ≡ headerBytes 0 (a .1 .0) (a .0) 0)
+      → now (b .0) ≡ left → length (now (b .1 .0)) ≡ 16 → read-into-reads.Post κt b n t
+      → (n ≡ 0) × (now (t .1 .0) ≡ headerBytes (writtenHeader kind id))
   read-into-after-write κt b n t e l p =
-      header-after (a .0) (a .1 .0) (now (a .1 .1 .0)) (now (a .1 .1 .1 .0)) (now (s .1 .1 .1 .0)) r (did .0) zero (did .1)
-      (now (b .0)) (now (b .1 .0)) (now (t .1 .0)) n e l p
+      header-after kind id (a .1 .1 .0) (now (a .1 .1 .1 .0)) (now (a .1 .1 .1 .1 .0)) (now (a .1 .1 .1 .1 .1 .0)) r left (did .0) zero (did .1)
+      (now (b .0)) (now (b .1 .0)) (now (t .1 .0)) n e l (p .0)
 
--- after a call read(word) that gave RFU 0, id and kind
-module _ (κs : Lfts 1) (a : ArgsD read.signature κs) (h : ResD read.signature κs) (s : AtExit (endedOf 1 read-kinds.ps read-kinds.r) κs)
-    (saw : read-reads.Post κs a h s) (id kind : ℕ) (found : h ≡ Fields 0 id kind) where
-  -- a write of these and of what payload_of(word) gave, into 1,536 bytes, answers 0 and leaves the same header, and for stream type 1 the same word
-  pub write-after-read : (κt : Lfts 1) (b : ArgsD payload-of.signature κt) (q : ResD payload-of.signature κt)
-      (t : AtExit (endedOf 1 payload-of-kinds.ps payload-of-kinds.r) κt)
-      (κu : Lfts 2) (c : ArgsD write.signature κu) (r : ResD write.signature κu) (u : AtExit (endedOf 2 write-kinds.ps write-kinds.r) κu)
-      → now (b .0) ≡ now (a .0) → payload-of-reads.Post κt b q t
-      → c .0 ≡ kind → c .1 .0 ≡ id → now (c .1 .1 .0) ≡ now q → length (now (c .1 .1 .1 .0)) ≡ 1536 → write-reads.Post κu c r u
-      → (r ≡ 0) × (drop 1532 (now (u .1 .1 .1 .0)) ≡ drop 1532 (now (a .0))) × (c .0 ≡ 1 → now (u .1 .1 .1 .0) ≡ now (a .0))
-  write-after-read κt b q t κu c r u same showed ek ei ep n did =
-      let w : List ℕ = now (a .0) in
-      let f = fields-told w 0 id kind (ap told (sym found) ∙ saw .0) in
-      write-again w (readable w (sym (f .0))) (saw .1) (sym (f .1)) (c .0) (c .1 .0) (now (c .1 .1 .0)) (now (c .1 .1 .1 .0)) r (now (u .1 .1 .1 .0))
-      (ek ∙ f .3) (ei ∙ f .2) (ep ∙ showed ∙ ap shown same) n (did .0)
+-- after a call read(word) that gave a header
+module _ (κs : Lfts 1) (a : ArgsD read.signature κs) (r : ResD read.signature κs) (s : AtExit (endedOf 1 read-kinds.ps read-kinds.r) κs)
+    (saw : read-reads.Post κs a r s) (h : Header) (found : r ≡ Accepted h) where
+  abbrev word : List ℕ
+  word = now (a .0)
 
--- after a call read(word) that gave any header
-module _ (κs : Lfts 1) (a : ArgsD read.signature κs) (h : ResD read.signature κs) (s : AtExit (endedOf 1 read-kinds.ps read-kinds.r) κs)
-    (saw : read-reads.Post κs a h s) (rfu id kind : ℕ) (found : h ≡ Fields rfu id kind) where
-  -- a word of 1,536 bytes that differs from it in one of the 18 bits from RFU to Encap_Ver alone is refused with 5
+  facts : (0 ≡ readRefusal word) × (h ≡ headerOf word)
+  facts = header-told word h (ap told (sym found) ∙ saw .0)
+
+  kind-is : h .kind ≡ kindOf word
+  unfolding headerOf
+  kind-is = ap (λ (x : Header). x .kind) (facts .1)
+
+  -- with RFU 0: a write of its stream type, its stream id and of what payload_of(word) gave, of type 2 as eight packets, into 1,536 bytes
+  -- answers 0 and leaves the same last four bytes; and the same word for type 1, and for type 2 where all four parts hold
+  pub write-after-read : h .rfu ≡ 0
+      → (κt : Lfts 1) (b : ArgsD payload-of.signature κt) (q : ResD payload-of.signature κt) (t : AtExit (endedOf 1 payload-of-kinds.ps payload-of-kinds.r) κt)
+      (κu : Lfts 3) (c : ArgsD write.signature κu) (n : ResD write.signature κu) (u : AtExit (endedOf 3 write-kinds.ps write-kinds.r) κu)
+      → now (b .0) ≡ word → payload-of-reads.Post κt b q t
+      → c .0 ≡ h .kind → c .1 .0 ≡ h .id → (c .0 ≡ 2 → c .1 .1 .0 ≡ 8) → now (c .1 .1 .1 .0) ≡ now q → (c .0 ≡ 2 → length (now (c .1 .1 .1 .1 .0)) ≡ 188)
+      → length (now (c .1 .1 .1 .1 .1 .0)) ≡ 1536 → write-reads.Post κu c n u
+      → (n ≡ 0) × (drop 1532 (now (u .1 .1 .1 .1 .1 .0)) ≡ drop 1532 word) × (c .0 ≡ 1 → now (u .1 .1 .1 .1 .1 .0) ≡ word)
+      × (c .0 ≡ 2 → h .parity ≡ 15 → now (u .1 .1 .1 .1 .1 .0) ≡ word)
+  unfolding headerOf parityOf
+  write-after-read z κt b q t κu c n u same showed ek ei ec ep one len did =
+      let f : h ≡ headerOf word = facts .1 in
+      let g = write-again word (readable word (sym (facts .0))) (saw .1) (sym (ap (λ (x : Header). x .rfu) f) ∙ z)
+      (c .0) (c .1 .0) (c .1 .1 .0) (now (c .1 .1 .1 .0)) (now (c .1 .1 .1 .1 .0)) (now (c .1 .1 .1 .1 .1 .0)) n (now (u .1 .1 .1 .1 .1 .0))
+      (ek ∙ kind-is) (ei ∙ ap (λ (x : Header). x .id) f) (ep ∙ showed ∙ ap shown same) ec one len (did .0) in
+      (g .0, g .1, g .2, λ two p. g .3 two (sym (choose-true (heldOf word) 0 (eq-eqb (kindOf word) 2 (sym (ek ∙ kind-is) ∙ two))) ∙ sym (ap (λ (x : Header). x .parity) f) ∙ p))
+
+  -- a word of 1,536 bytes that differs from it in one of the header bits that the CRC covers alone is refused with 5
   pub refused-where-damaged : (κt : Lfts 1) (b : ArgsD read.signature κt) (k : ResD read.signature κt) (t : AtExit (endedOf 1 read-kinds.ps read-kinds.r) κt) (i : ℕ)
-      → i < 18 → ((j : ℕ) → (j ≡ 12256 + i → ⊥) → bitAt (now (b .0)) j ≡ bitAt (now (a .0)) j)
-      → (bitAt (now (b .0)) (12256 + i) ≡ bitAt (now (a .0)) (12256 + i) → ⊥) → length (now (b .0)) ≡ 1536 → read-reads.Post κt b k t → k ≡ Refused 5
-  refused-where-damaged κt b k t i room same other n p =
-      let w : List ℕ = now (a .0) in
-      let f = fields-told w rfu id kind (ap told (sym found) ∙ saw .0) in
-      told-inj k (Refused 5)
-      (p .0 ∙ sym (tells-refusal (now (b .0)) 5 (damaged w (now (b .0)) i room same other (readable w (sym (f .0))) n) (omega arith)))
+      → OneBit word (now (b .0)) i → read-reads.Post κt b k t → k ≡ Refused 5
+  refused-where-damaged κt b k t i d p =
+      told-inj k (Refused 5) (p .0 ∙ sym (tells-refusal (now (b .0)) 5 (damaged word (now (b .0)) i d (readable word (sym (facts .0)))) (omega arith)))
+
+  -- of stream type 2
+  module _ (two : h .kind ≡ 2) where
+    of-2 : kindOf word ≡ 2
+    of-2 = sym kind-is ∙ two
+
+    parity-is : h .parity ≡ heldOf word
+    unfolding headerOf parityOf
+    parity-is = ap (λ (x : Header). x .parity) (facts .1) ∙ choose-true (heldOf word) 0 (eq-eqb (kindOf word) 2 of-2)
+
+    -- part k is reported as holding exactly where generator and parity bit both agree
+    pub parity-means : (k : ℕ) → k < 4 → (h .parity / 2 ^ k % 2 ≡ 1) ↔ Sound (received word k)
+    parity-means k l =
+        let m = meaning (received word k) (received-bits word k) in
+        let e : h .parity / 2 ^ k % 2 ≡ heldOf word / 2 ^ k % 2 = ap (λ (x : ℕ). x / 2 ^ k % 2) parity-is in
+        (λ t. m .0 (held-set word k l (sym e ∙ t)), λ t. e ∙ held-true word k l (m .1 t))
+
+    -- the packets are shown as they were received, whatever the parity says
+    pub packets-shown : (κt : Lfts 1) (b : ArgsD payload-of.signature κt) (q : ResD payload-of.signature κt)
+        (t : AtExit (endedOf 1 payload-of-kinds.ps payload-of-kinds.r) κt) → now (b .0) ≡ word → payload-of-reads.Post κt b q t → now q ≡ take 1504 word
+    packets-shown κt b q t e p = p ∙ ap shown e ∙ sym (shows word 1504 (facts .0) (sym (packet-2 (kindOf word) of-2)))
+
+    -- where part k holds, a word with an odd number of other bits of that part alone is accepted with the same fields, and just part k is
+    -- reported as not holding
+    pub part-seen : (κt : Lfts 1) (b : ArgsD read.signature κt) (q : ResD read.signature κt) (t : AtExit (endedOf 1 read-kinds.ps read-kinds.r) κt) (k : ℕ)
+        → h .parity / 2 ^ k % 2 ≡ 1 → OddIn word (now (b .0)) k → read-reads.Post κt b q t → PartSeen h q k
+    unfolding headerOf parityOf
+    part-seen κt b q t k set d p =
+        let v : List ℕ = now (b .0) in
+        let sound : Readable v = still-readable word v k d (readable word (sym (facts .0))) of-2 in
+        let kind-v : kindOf v ≡ kindOf word = same-behind word v k d 12268 3 (omega arith) (omega arith) in
+        let held-v : parityOf v ≡ heldOf v = choose-true (heldOf v) 0 (eq-eqb (kindOf v) 2 (kind-v ∙ of-2)) in
+        record {
+          now = headerOf v;
+          read = told-inj q (Accepted (headerOf v)) (p .0 ∙ sym (tells-header v (headerOf v) (read-0 v sound) refl));
+          rfu = same-rfu word v k d of-2 ∙ sym (ap (λ (x : Header). x .rfu) (facts .1));
+          id = same-behind word v k d 12260 8 (omega arith) (omega arith) ∙ sym (ap (λ (x : Header). x .id) (facts .1));
+          kind = kind-v ∙ sym kind-is;
+          version = same-behind word v k d 12271 3 (omega arith) (omega arith) ∙ sym (ap (λ (x : Header). x .version) (facts .1));
+          fails = ap (λ (x : ℕ). x / 2 ^ k % 2) held-v ∙ part-fails word v k d (sym (ap (λ (x : ℕ). x / 2 ^ k % 2) parity-is) ∙ set);
+          others = λ j l n. ap (λ (x : ℕ). x / 2 ^ j % 2) held-v ∙ others-stay word v k d j l n ∙ sym (ap (λ (x : ℕ). x / 2 ^ j % 2) parity-is);
+        }

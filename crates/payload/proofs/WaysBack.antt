@@ -1,140 +1,179 @@
 -- The ways back, over the definitions: what the reader makes of a written word, and which words the writer writes.
 -- Assumes nothing.
-use Prim.Native.Nat.{ℕ, _-_, _≤_, _<_}
+use Prim.Native.Nat.{ℕ, _*_, _≤_, _<_}
 use mathlib.Core.Path.{_≡_, refl, sym, ap, ap₂, _∙_, subst}
-use mathlib.Core.List.{List, _++_, append-assoc, append-nil}
+use mathlib.Core.List.{List}
+use native.Mathlib.Decide.{ℕ-discrete}
 use native.Mathlib.Omega.{arith}
-use lib.ListN.{length, take, drop, replicate, length-append, take-append-drop}
-use lib.Seq.{take-at, drop-at, length-take-le}
+use borrow.Author.Tests.{eq-eqb, ne-eqb}
+use lib.Dec.{eqb}
+use lib.ListN.{length, take, drop}
+use lib.Seq.{length-take-le}
 use Rattle.ground.specs.Outcome.{Is}
+use Rattle.ground.specs.Choice.{choose}
 use Rattle.ground.proofs.Outcome.{agree}
-use Rattle.bits.specs.Lists.{bits, pack, Below}
-use Rattle.bits.proofs.Lists.{pack-length}
-use Rattle.payload.specs.Suffix.{idOf, kindOf, versionOf, crcFieldOf, headerCrc, header, closed}
-use Rattle.payload.specs.Word.{packetBytes, filled, rfuOf, wordOf}
-use Rattle.payload.specs.Answers.{written, told, reading, shown, headerBytes, readInto}
-use Rattle.payload.specs.declared.Header.the-variants.{Fields}
-use Rattle.payload.proofs.Stores.{filled-length}
-use Rattle.payload.proofs.LastBytes.{rfu-is, id-is, kind-is, version-is, spare-is, crc-is, covered-fields, last-fields}
-use Rattle.payload.proofs.Writing.{packet-le}
-use Rattle.payload.proofs.Faults.{Writable, Readable, read-0}
-use Rattle.payload.proofs.Answers.{tells-fields, shows, into-done, writes, wrote}
+use Rattle.ground.proofs.Choice.{choose-true, choose-false}
+use Rattle.bits.specs.Lists.{Below}
+use Rattle.bits.proofs.Below.{below-take}
+use Rattle.bits.proofs.Places.{field-lt}
+use Rattle.parity.specs.Part.{heldOf}
+use Rattle.infoword.specs.Suffix.{idOf, kindOf, rfuOf}
+use Rattle.infoword.specs.Word.{packetBytes, frontBytes, wordOf}
+use Rattle.infoword.proofs.Written.{front-2, front-other, packet-2, packet-le, word-length, id-back, kind-back, version-back, spare-back, rfu-back, crc-back, packet-first, held-back}
+use Rattle.infoword.proofs.Again.{Sound, word-below, same-ending, word-again-1, word-again-2}
+use Rattle.encapsulation.specs.Writing.{packetOf, lentBytes, written}
+use Rattle.encapsulation.proofs.Faults.{Writable}
+use Rattle.encapsulation.proofs.Laid.{lent-2, lent-other}
+use Rattle.encapsulation.proofs.Answers.{writes, wrote, carried-length, packet-whole}
+use Rattle.payload.specs.Answers.{parityOf, headerOf, writtenHeader, told, reading, shown, headerBytes, readInto}
+use Rattle.payload.specs.declared.Reading.the-variants.{Accepted}
+use Rattle.payload.proofs.Faults.{Readable, read-0}
+use Rattle.payload.proofs.Answers.{tells-header, shows, into-done}
 
--- a written word begins with its packet
-packet-first : (kind id : ℕ) (p : List ℕ) → length p ≡ packetBytes kind → take (packetBytes kind) (wordOf kind id p) ≡ p
-unfolding wordOf filled
-packet-first kind id p n =
-    ap (take (packetBytes kind)) (append-assoc p (replicate (1532 - length p) 0) (pack 4 (closed (header (bits 4 0) id kind 0))))
-    ∙ take-at p (replicate (1532 - length p) 0 ++ pack 4 (closed (header (bits 4 0) id kind 0))) (packetBytes kind) n
+-- a word that the writer writes, with a packet of its stream type's size
+module _ (kind id : ℕ) (p : List ℕ) (k : kind ≤ 2) (i : id < 256) (n : length p ≡ packetBytes kind) where
+  fits : length p ≤ frontBytes kind
+  fits = subst (λ (x : ℕ). x ≤ frontBytes kind) (sym n) (packet-le kind)
 
--- a word that the writer writes
-module _ (kind id : ℕ) (p : List ℕ) (k : kind ≤ 1) (i : id < 256) (n : length p ≡ packetBytes kind) where
-  front-length : length (filled p) ≡ 1532
-  front-length = filled-length p (omega (arith, packet-le kind))
-
-  word-length : length (wordOf kind id p) ≡ 1536
-  unfolding wordOf
-  word-length = simp (length-append, pack-length) (omega (arith, front-length))
-
-  rfu-back : rfuOf (wordOf kind id p) ≡ 0
-  unfolding wordOf
-  rfu-back = rfu-is (filled p) 0 id kind 0 front-length (omega arith)
-
-  id-back : idOf (wordOf kind id p) ≡ id
-  unfolding wordOf
-  id-back = id-is (filled p) 0 id kind 0 front-length i
-
-  kind-back : kindOf (wordOf kind id p) ≡ kind
-  unfolding wordOf
-  kind-back = kind-is (filled p) 0 id kind 0 front-length (omega arith)
+  kind-is : kindOf (wordOf kind id p) ≡ kind
+  kind-is = kind-back kind id p fits (omega arith)
 
   -- it is accepted
   pub read-back : Readable (wordOf kind id p)
-  unfolding wordOf
   read-back = record {
-    word-is = word-length;
-    spare-is = spare-is (filled p) 0 id kind 0 front-length;
-    crc-is = crc-is (filled p) 0 id kind 0 front-length;
-    version-is = version-is (filled p) 0 id kind 0 front-length (omega arith);
-    kind-is = rw kind-back k;
+    word-is = word-length kind id p fits;
+    spare-is = spare-back kind id p fits;
+    crc-is = crc-back kind id p fits (omega arith);
+    version-is = version-back kind id p fits;
+    kind-is = rw kind-is k;
   }
 
-  -- its header is told, with RFU zero
-  pub header-back : told (Fields 0 id kind) ≡ reading (wordOf kind id p)
-  header-back = tells-fields (wordOf kind id p) 0 id kind (read-0 (wordOf kind id p) read-back) (sym rfu-back) (sym id-back) (sym kind-back)
+  -- all four parts of type 2 hold
+  parity-back : parityOf (wordOf kind id p) ≡ choose (eqb kind 2) 15 0
+  unfolding parityOf
+  parity-back =
+      ap (λ (x : ℕ). choose (eqb x 2) (heldOf (wordOf kind id p)) 0) kind-is
+      ∙ elim (ℕ-discrete kind 2) [
+        | yes e ↦ choose-true (heldOf (wordOf kind id p)) 0 (eq-eqb kind 2 e) ∙ ap (λ (x : ℕ). heldOf (wordOf x id p)) e ∙ held-back id p (n ∙ packet-2 kind e) ∙ sym (choose-true 15 0 (eq-eqb kind 2 e))
+        | no e ↦ choose-false (heldOf (wordOf kind id p)) 0 (ne-eqb kind 2 e) ∙ sym (choose-false 15 0 (ne-eqb kind 2 e))
+      ]
+
+  header-is : writtenHeader kind id ≡ headerOf (wordOf kind id p)
+  unfolding headerOf
+  header-is =
+      let w : List ℕ = wordOf kind id p in
+      cc (sym (rfu-back kind id p fits (omega arith)), sym (id-back kind id p fits i), sym kind-is, sym (version-back kind id p fits), sym parity-back)
+
+  -- its header is told
+  pub header-back : told (Accepted (writtenHeader kind id)) ≡ reading (wordOf kind id p)
+  header-back = tells-header (wordOf kind id p) (writtenHeader kind id) (read-0 (wordOf kind id p) read-back) header-is
 
   -- its packet is shown
   pub packet-back : shown (wordOf kind id p) ≡ p
   packet-back =
-      sym (shows (wordOf kind id p) (packetBytes kind) (read-0 (wordOf kind id p) read-back) (ap packetBytes (sym kind-back))) ∙ packet-first kind id p n
+      sym (shows (wordOf kind id p) (length p) (read-0 (wordOf kind id p) read-back) (n ∙ ap packetBytes (sym kind-is))) ∙ packet-first kind id p fits
 
   -- and its header goes into 16 bytes
-  pub bytes-back : (out : List ℕ) → length out ≡ 16 → Is (readInto (wordOf kind id p) out) 0 (headerBytes 0 id kind 0)
-  bytes-back out h =
-      let e : headerBytes 0 id kind 0 ≡ headerBytes (rfuOf (wordOf kind id p)) (idOf (wordOf kind id p)) (kindOf (wordOf kind id p)) 0 =
-      cc (rfu-back, id-back, kind-back) in
-      into-done (wordOf kind id p) out h (read-0 (wordOf kind id p) read-back) (headerBytes 0 id kind 0) e
+  pub bytes-back : (out : List ℕ) → length out ≡ 16 → Is (readInto (wordOf kind id p) out) 0 (headerBytes (writtenHeader kind id))
+  bytes-back out h = into-done (wordOf kind id p) out h (read-0 (wordOf kind id p) read-back) (headerBytes (writtenHeader kind id)) (ap headerBytes header-is)
 
--- after a write that answered 0, reading the header into 16 bytes answers 0 and leaves RFU 0, the id and the type that were written
-pub header-after : (kind id : ℕ) (p word m : List ℕ) (r : ℕ) → Is (written kind id p word) r m → r ≡ 0 → id < 256
-    → (w out h : List ℕ) (n : ℕ) → w ≡ m → length out ≡ 16 → Is (readInto w out) n h → (n ≡ 0) × (h ≡ headerBytes 0 id kind 0)
-header-after kind id p word m r o z i w out h n e l q =
-    let a : Writable kind (length p) (length word) = wrote kind id p word r m o z in
-    let f : w ≡ wordOf kind id p = e ∙ writes kind id p word r m o a .1 in
-    agree q (subst (λ (x : List ℕ). Is (readInto x out) 0 (headerBytes 0 id kind 0)) (sym f) (bytes-back kind id p (a .kind-is) i (a .packet-is) out l))
+  -- it can be written again
+  pub written-sound : Below 256 p → Sound (wordOf kind id p)
+  written-sound b = record {
+    word-is = word-length kind id p fits;
+    bytes = word-below kind id p b;
+    spare-is = spare-back kind id p fits;
+    crc-is = crc-back kind id p fits (omega arith);
+    version-is = version-back kind id p fits;
+    rfu-is = rfu-back kind id p fits (omega arith);
+  }
 
--- after a write of stream type 1 that answered 0, the first 1,532 bytes of the word are the packet
-pub packet-after : (kind id : ℕ) (p word m : List ℕ) (r : ℕ) → Is (written kind id p word) r m → r ≡ 0 → kind ≡ 1 → take 1532 m ≡ p
-packet-after kind id p word m r o z one =
-    let a : Writable kind (length p) (length word) = wrote kind id p word r m o z in
-    ap (take 1532) (writes kind id p word r m o a .1)
-    ∙ ap (λ (x : ℕ). take (packetBytes x) (wordOf kind id p)) (sym one) ∙ packet-first kind id p (a .packet-is)
+-- after a write that answered 0
+module _ (kind id count : ℕ) (p null word : List ℕ) (r : ℕ) (m : List ℕ) (o : Is (written kind id count p null word) r m) (z : r ≡ 0) (i : id < 256) where
+  could : Writable kind count (length p) (length null) (length word)
+  could = wrote kind id count p null word r m o z
+
+  left : m ≡ wordOf kind id (packetOf kind count p null)
+  left = writes kind id count p null word r m o could .1
+
+  size : length (packetOf kind count p null) ≡ packetBytes kind
+  size = carried-length kind count p null (length word) could
+
+  -- the header that is told
+  pub header-told-after : told (Accepted (writtenHeader kind id)) ≡ reading m
+  header-told-after = header-back kind id (packetOf kind count p null) (could .kind-is) i size ∙ ap reading (sym left)
+
+  -- reading the header into 16 bytes answers 0 and leaves that header
+  pub header-after : (w out h : List ℕ) (n : ℕ) → w ≡ m → length out ≡ 16 → Is (readInto w out) n h → (n ≡ 0) × (h ≡ headerBytes (writtenHeader kind id))
+  header-after w out h n e l q =
+      agree q (subst (λ (x : List ℕ). Is (readInto x out) 0 (headerBytes (writtenHeader kind id))) (sym (e ∙ left)) (bytes-back kind id (packetOf kind count p null) (could .kind-is) i size out l))
+
+  -- the packet is shown: of type 2 the packets and then the null packets
+  pub shown-after : shown m ≡ packetOf kind count p null
+  shown-after = ap shown left ∙ packet-back kind id (packetOf kind count p null) (could .kind-is) i size
+
+  -- and it stands at the front of the word
+  pub packet-after : take (packetBytes kind) m ≡ packetOf kind count p null
+  packet-after =
+      ap₂ take (sym size) left ∙ packet-first kind id (packetOf kind count p null) (subst (λ (x : ℕ). x ≤ frontBytes kind) (sym size) (packet-le kind))
 
 -- a word of bytes that the reader accepts with RFU zero
 module _ (w : List ℕ) (a : Readable w) (b : Below 256 w) (z : rfuOf w ≡ 0) where
-  -- its last four bytes are those of the word that is written from its fields
-  pub ending-again : drop 1532 w ≡ pack 4 (closed (header (bits 4 0) (idOf w) (kindOf w) 0))
-  unfolding closed
-  ending-again =
-      let h : List ℕ = header (bits 4 0) (idOf w) (kindOf w) 0 in
-      let f : header (bits 4 (rfuOf w)) (idOf w) (kindOf w) (versionOf w) ≡ h = cc (z, a .version-is) in
-      let c : crcFieldOf w ≡ headerCrc h = a .crc-is ∙ ap headerCrc (covered-fields w (a .word-is) b ∙ f) in
-      last-fields w (a .word-is) b
-      ∙ ap₂ (λ (x : List ℕ) (y : ℕ). pack 4 (x ++ bits 8 (crcFieldOf w) ++ bits 6 y)) f (a .spare-is)
-      ∙ ap (λ (x : ℕ). pack 4 (h ++ bits 8 x ++ bits 6 0)) c
-
-  -- of stream type 1: it is that word
-  pub word-again : kindOf w ≡ 1 → w ≡ wordOf 1 (idOf w) (take 1532 w)
-  unfolding wordOf filled
-  word-again k =
-      let l : length (take 1532 w) ≡ 1532 = length-take-le 1532 w (omega (arith, a .word-is)) in
-      let e : take 1532 w ≡ take 1532 w ++ replicate (1532 - length (take 1532 w)) 0 =
-      sym (ap (λ (x : ℕ). take 1532 w ++ replicate (1532 - x) 0) l ∙ append-nil (take 1532 w)) in
-      sym (take-append-drop 1532 w)
-      ∙ ap₂ (λ (x y : List ℕ). x ++ y) e (ending-again ∙ ap (λ (x : ℕ). pack 4 (closed (header (bits 4 0) (idOf w) x 0))) k)
-
-  -- of any type, whatever the packet: the same last four bytes
-  pub suffix-again : (p : List ℕ) → length p ≤ 1532 → drop 1532 w ≡ drop 1532 (wordOf (kindOf w) (idOf w) p)
-  unfolding wordOf
-  suffix-again p n = ending-again ∙ sym (drop-at (filled p) (pack 4 (closed (header (bits 4 0) (idOf w) (kindOf w) 0))) 1532 (filled-length p n))
+  sound : Sound w
+  sound = record { word-is = a .word-is; bytes = b; spare-is = a .spare-is; crc-is = a .crc-is; version-is = a .version-is; rfu-is = z }
 
   shown-is : shown w ≡ take (packetBytes (kindOf w)) w
   shown-is = sym (shows w (packetBytes (kindOf w)) (read-0 w a) refl)
 
-  shown-length : length (shown w) ≡ packetBytes (kindOf w)
-  shown-length = ap length shown-is ∙ length-take-le (packetBytes (kindOf w)) w (omega (arith, a .word-is, packet-le (kindOf w)))
+  front-most : frontBytes (kindOf w) ≤ 1532
+  front-most =
+      elim (ℕ-discrete (kindOf w) 2) [
+        | yes e ↦ omega (arith, front-2 (kindOf w) e)
+        | no n ↦ omega (arith, front-other (kindOf w) n)
+      ]
 
-  -- a write of the fields and of the payload that is shown, into 1,536 bytes, leaves the same last four bytes, and for stream type 1 the same word
-  pub write-again : (kind id : ℕ) (p out : List ℕ) (r : ℕ) (m : List ℕ) → kind ≡ kindOf w → id ≡ idOf w → p ≡ shown w → length out ≡ 1536
-      → Is (written kind id p out) r m → (r ≡ 0) × (drop 1532 m ≡ drop 1532 w) × (kind ≡ 1 → m ≡ w)
-  write-again kind id p out r m k i e n o =
-      let l : length p ≡ packetBytes (kindOf w) = ap length e ∙ shown-length in
-      let f = writes kind id p out r m o (record { kind-is = rw k (a .kind-is); packet-is = l ∙ ap packetBytes (sym k); word-is = n }) in
-      let same : wordOf kind id p ≡ wordOf (kindOf w) (idOf w) p = cc (k, i) in
-      let g : m ≡ wordOf (kindOf w) (idOf w) p = f .1 ∙ same in (
-        f .0,
-        ap (drop 1532) g ∙ sym (suffix-again p (omega (arith, packet-le (kindOf w)))),
-        λ one.
-            let t : p ≡ take 1532 w = e ∙ shown-is ∙ ap (λ (x : ℕ). take (packetBytes x) w) (sym k ∙ one) in
-            f .1 ∙ ap₂ (λ (x : ℕ) (y : List ℕ). wordOf x id y) one t ∙ ap (λ (x : ℕ). wordOf 1 x (take 1532 w)) i ∙ sym (word-again (sym k ∙ one)),
-      )
+  shown-length : length (shown w) ≡ packetBytes (kindOf w)
+  shown-length = ap length shown-is ∙ length-take-le (packetBytes (kindOf w)) w (omega (arith, a .word-is, packet-le (kindOf w), front-most))
+
+  -- a write of the fields and of the payload that is shown, of type 2 as eight packets, leaves the same last four bytes in 1,536; and the same
+  -- word for stream type 1, and for type 2 where all four parts hold
+  module _ (kind id count : ℕ) (p null out : List ℕ) (r : ℕ) (m : List ℕ) (k : kind ≡ kindOf w) (i : id ≡ idOf w) (e : p ≡ shown w)
+      (c : kind ≡ 2 → count ≡ 8) (one : kind ≡ 2 → length null ≡ 188) (n : length out ≡ 1536) (o : Is (written kind id count p null out) r m) where
+    lent : length p ≡ lentBytes kind count
+    lent =
+        ap length e ∙ shown-length ∙ ap packetBytes (sym k)
+        ∙ elim (ℕ-discrete kind 2) [
+          | yes t ↦ packet-2 kind t ∙ sym (lent-2 kind count t ∙ ap (λ (x : ℕ). 188 * x) (c t))
+          | no t ↦ choose-false 1504 (choose (eqb kind 1) 1532 0) (ne-eqb kind 2 t) ∙ sym (lent-other kind count t)
+        ]
+
+    allowed : Writable kind count (length p) (length null) (length out)
+    allowed = record { kind-is = rw k (a .kind-is); count-is = λ t. omega (arith, c t); payload-is = lent; null-is = one; word-is = n }
+
+    again : m ≡ wordOf (kindOf w) (idOf w) (shown w)
+    again =
+        writes kind id count p null out r m o allowed .1 ∙ ap (wordOf kind id) (packet-whole kind count p null c ∙ e)
+        ∙ ap₂ (λ (x y : ℕ). wordOf x y (shown w)) k i
+
+    shown-below : Below 256 (shown w)
+    shown-below = subst (λ (l : List ℕ). Below 256 l) (sym shown-is) (below-take 256 (packetBytes (kindOf w)) w b)
+
+    id-lt : idOf w < 256
+    id-lt = field-lt w 12260 8 (omega arith)
+
+    pub write-again : (r ≡ 0) × (drop 1532 m ≡ drop 1532 w) × (kind ≡ 1 → m ≡ w) × (kind ≡ 2 → heldOf w ≡ 15 → m ≡ w)
+    write-again =
+        let v : List ℕ = wordOf (kindOf w) (idOf w) (shown w) in
+        let fit : length (shown w) ≤ frontBytes (kindOf w) = subst (λ (x : ℕ). x ≤ frontBytes (kindOf w)) (sym shown-length) (packet-le (kindOf w)) in
+        let s : Sound v = written-sound (kindOf w) (idOf w) (shown w) (a .kind-is) id-lt shown-length shown-below in
+        let same : drop 1532 v ≡ drop 1532 w =
+        same-ending v w s sound (id-back (kindOf w) (idOf w) (shown w) fit id-lt) (kind-back (kindOf w) (idOf w) (shown w) fit (omega (arith, a .kind-is))) in (
+          writes kind id count p null out r m o allowed .0,
+          ap (drop 1532) again ∙ same,
+          λ t.
+              let f : kindOf w ≡ 1 = sym k ∙ t in
+              again ∙ ap (wordOf (kindOf w) (idOf w)) (shown-is ∙ ap (λ (x : ℕ). take (packetBytes x) w) f) ∙ sym (word-again-1 w sound f),
+          λ t h.
+              let f : kindOf w ≡ 2 = sym k ∙ t in
+              again ∙ ap (wordOf (kindOf w) (idOf w)) (shown-is ∙ ap (λ (x : ℕ). take (packetBytes x) w) f) ∙ sym (word-again-2 w sound f h),
+        )

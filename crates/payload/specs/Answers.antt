@@ -1,4 +1,4 @@
--- What the writer and the reader answer, with document 01's refusals in their order.
+-- What the reader of a payload word answers, with the documents' refusals in their order.
 -- Assumes nothing.
 use Prim.Native.Nat.{ℕ}
 use mathlib.Core.Bool.{not}
@@ -8,24 +8,12 @@ use lib.ListN.{length, take, replicate}
 use Rattle.ground.specs.Outcome.{Outcome, Told}
 use Rattle.ground.specs.Choice.{choose, Fault, refuse, firstOf, refusing}
 use Rattle.bits.specs.Lists.{bits, pack}
-use Rattle.payload.specs.Suffix.{idOf, kindOf, versionOf, crcFieldOf, spareOf, coveredOf, headerCrc}
-use Rattle.payload.specs.Word.{packetBytes, rfuOf, wordOf}
+use Rattle.parity.specs.Part.{heldOf}
+use Rattle.infoword.specs.Suffix.{idOf, kindOf, versionOf, crcFieldOf, spareOf, rfuOf, coveredOf, headerCrc}
+use Rattle.infoword.specs.Word.{packetBytes}
 use Rattle.payload.specs.declared.Header.{Header}
-use Rattle.payload.specs.declared.Header.the-variants.{Fields, Refused}
-
--- "write": 15, 1, of a stream type and the lengths of the packet and of the word
-abbrev pub writeFaults : ℕ → ℕ → ℕ → List Fault
-writeFaults kind packet word =
-    refuse 15 (ltb 1 kind) ∷
-    refuse 1 (not (eqb packet (packetBytes kind))) ∷
-    refuse 1 (not (eqb word 1536)) ∷ []
-
-unfoldable pub writeRefusal : ℕ → ℕ → ℕ → ℕ
-writeRefusal kind packet word = firstOf (writeFaults kind packet word)
-
--- the word written into 1,536 bytes
-unfoldable pub written : ℕ → ℕ → List ℕ → List ℕ → Outcome ℕ (List ℕ)
-written kind id packet word = refusing (writeRefusal kind (length packet) (length word)) (wordOf kind id packet) word
+use Rattle.payload.specs.declared.Reading.{Reading}
+use Rattle.payload.specs.declared.Reading.the-variants.{Accepted, Refused}
 
 -- "Payload read": 1 2 5 16 15
 abbrev pub readFaults : List ℕ → List Fault
@@ -34,29 +22,46 @@ readFaults w =
     refuse 2 (not (eqb (spareOf w) 0)) ∷
     refuse 5 (not (eqb (crcFieldOf w) (headerCrc (coveredOf w)))) ∷
     refuse 16 (not (eqb (versionOf w) 0)) ∷
-    refuse 15 (ltb 1 (kindOf w)) ∷ []
+    refuse 15 (ltb 2 (kindOf w)) ∷ []
 
 unfoldable pub readRefusal : List ℕ → ℕ
 readRefusal w = firstOf (readFaults w)
 
--- the reader's answer in document 01's terms: the number, 0 for a word that is accepted, and RFU, stream id and stream type of such a word
-abbrev pub told : Header → Told
-told (Fields rfu id kind) = record { number = 0; values = rfu ∷ id ∷ kind ∷ [] }
+-- which parts of a word hold: the four of type 2; types 0 and 1 have none
+unfoldable pub parityOf : List ℕ → ℕ
+parityOf w = choose (eqb (kindOf w) 2) (heldOf w) 0
+
+-- what is reported of a word: RFU, STS_ID, STS_Stream_Type_ID and Encap_Ver as they stand, and which parts hold. First_Header_Address is
+-- for a later stream type, and 0 in types 0, 1 and 2
+unfoldable pub headerOf : List ℕ → Header
+headerOf w = record { rfu = rfuOf w; id = idOf w; kind = kindOf w; version = versionOf w; parity = parityOf w; address = 0 }
+
+-- what is reported of a word that was written with a stream type and a stream id: of type 2 all four parts hold
+abbrev pub writtenHeader : ℕ → ℕ → Header
+writtenHeader kind id = record { rfu = 0; id = id; kind = kind; version = 0; parity = choose (eqb kind 2) 15 0; address = 0 }
+
+-- the values of a header, in that order
+abbrev pub valuesOf : Header → List ℕ
+valuesOf h = h .rfu ∷ h .id ∷ h .kind ∷ h .version ∷ h .parity ∷ h .address ∷ []
+
+-- the reader's answer in document 01's terms: the number, 0 for a word that is accepted, and what is reported of such a word
+abbrev pub told : Reading → Told
+told (Accepted h) = record { number = 0; values = valuesOf h }
 told (Refused n) = record { number = n; values = [] }
 
 -- what is told of a word
 unfoldable pub reading : List ℕ → Told
-reading w = record { number = readRefusal w; values = choose (eqb (readRefusal w) 0) (rfuOf w ∷ idOf w ∷ kindOf w ∷ []) [] }
+reading w = record { number = readRefusal w; values = choose (eqb (readRefusal w) 0) (valuesOf (headerOf w)) [] }
 
--- the payload shown of a word: the packet of its stream type where it is accepted, else nothing
+-- the payload shown of a word: the packet of its stream type where it is accepted, as it stands in the word, else nothing
 unfoldable pub shown : List ℕ → List ℕ
 shown w = choose (eqb (readRefusal w) 0) (take (packetBytes (kindOf w)) w) []
 
--- the header as the C interface has it: RFU as a 32-bit number, stream id, stream type, Encap_Ver, nine zero bytes
-unfoldable pub headerBytes : ℕ → ℕ → ℕ → ℕ → List ℕ
-headerBytes rfu id kind version = pack 4 (bits 32 rfu) ++ (id ∷ kind ∷ version ∷ replicate 9 0)
+-- the header as the C interface has it: RFU as a 32-bit number, stream id, stream type, Encap_Ver, parity, First_Header_Address as a 16-bit
+-- number, six zero bytes
+unfoldable pub headerBytes : Header → List ℕ
+headerBytes h = pack 4 (bits 32 (h .rfu)) ++ (h .id ∷ h .kind ∷ h .version ∷ h .parity ∷ []) ++ pack 2 (bits 16 (h .address)) ++ replicate 6 0
 
 -- the header read into 16 bytes: their length is looked at with the word's
 unfoldable pub readInto : List ℕ → List ℕ → Outcome ℕ (List ℕ)
-readInto w out =
-    refusing (firstOf (refuse 1 (not (eqb (length out) 16)) ∷ readFaults w)) (headerBytes (rfuOf w) (idOf w) (kindOf w) (versionOf w)) out
+readInto w out = refusing (firstOf (refuse 1 (not (eqb (length out) 16)) ∷ readFaults w)) (headerBytes (headerOf w)) out

@@ -1,4 +1,2 @@
-pub mod Suffix
-pub mod Word
-pub mod Steps
 pub mod Answers
+pub mod Damage

@@ -1,131 +1,106 @@
-// Payload words of stream types 0 and 1 (clauses 4.3.1 and 4.3.2), written and read.
-mod packet;
-mod suffix;
+// Payload words of stream types 0, 1 and 2 (clauses 4.3.1 to 4.3.3), read.
+mod fields;
 
-use crate::suffix::ENCAP_VER;
-use crate::suffix::HEADER_CRC;
-use crate::suffix::RFU;
-use crate::suffix::STREAM_ID;
-use crate::suffix::STREAM_TYPE;
-use ground::CRC_WRONG;
-use ground::ENCAP_NOT_0;
 use ground::LENGTH_WRONG;
-use ground::PAYLOAD_BLOCK;
-use ground::PAYLOAD_WORD;
-use ground::SPARE_SET;
-use ground::TYPE_UNKNOWN;
+use infoword::STREAM_TYPE;
+use wide::Wide;
 ghost use mathlib.Core.Path.{_≡_};
-ghost use lib.ListN.{length};
-ghost use Prim.Native.Nat.{_<_};
+ghost use mathlib.Core.List.{_++_};
+ghost use Prim.Native.Nat.{_+_, _≤_};
+ghost use lib.ListN.{length, take, drop};
 ghost use Rattle.ground.specs.Outcome.{Is};
-ghost use Rattle.bits.specs.Lists.{Below};
-ghost use Rattle.payload.specs.Answers.{written, readRefusal, told, reading, shown, headerBytes, readInto};
+ghost use Rattle.bits.specs.Lists.{bits, pack, Below};
+ghost use Rattle.payload.specs.Answers.{told, reading, shown, headerBytes, readInto};
 
-// What reading a word gives: the fields of its header, or the number of its refusal. Encap_Ver is 0 in a word that is accepted.
-pub enum Header {
-    Fields { rfu: u32, id: u8, kind: u8 },
+// What is reported of a word that is accepted: the fields of its header as they stand, which of its parity parts hold (bit k for part
+// k), and First_Header_Address, which is 0 for the stream types that have none.
+pub struct Header {
+    pub rfu: u32,
+    pub id: u8,
+    pub kind: u8,
+    pub version: u8,
+    pub parity: u8,
+    pub address: u16,
+}
+
+// What reading a word gives: this, or the number of its refusal.
+pub enum Reading {
+    Accepted(Header),
     Refused(u8),
 }
 
 // The bytes of a header as it is handed to C.
 const HEADER: usize = 16;
 
-// Writes the payload word of a stream type (0 with an empty payload, 1 with 1,532 bytes) into 1,536 bytes and returns 0; a refusal touches nothing.
-pub fn write(kind: u32, id: u8, payload: &[u8], word: &mut [u8]) -> u8
-    ensures { λ r. ⌜ Is (written kind id (now (payload .entry)) (now (word .entry))) r (now (word .exit)) × (id < 256) ⌝ }
-{
-    let n = packet::refusal(kind, payload.len(), word.len());
-    if 0 < n {
-        return n;
-    }
-    packet::fill(payload, word);
-    // RFU 0, STS_ID, STS_Stream_Type_ID, Encap_Ver 0 (tables 2 and 3)
-    suffix::close(word, id as u32 * 64 + kind * 8);
-    0
-}
-
-// The refusal of a word, 0 where it is accepted.
-fn read_refusal(word: &[u8]) -> u8
-    ensures { λ r. ⌜ r ≡ readRefusal (now (word .entry)) ⌝ }
-{
-    if word.len() != PAYLOAD_WORD {
-        return LENGTH_WRONG;
-    }
-    // the six spare bits (01)
-    if suffix::field(word, PAYLOAD_BLOCK, 6) != 0 {
-        return SPARE_SET;
-    }
-    // HeaderCRC (tables 2 and 3)
-    if suffix::field(word, HEADER_CRC, 8) != suffix::crc(word) {
-        return CRC_WRONG;
-    }
-    // Encap_Ver (tables 2 and 3)
-    if 0 < suffix::field(word, ENCAP_VER, 3) {
-        return ENCAP_NOT_0;
-    }
-    // STS_Stream_Type_ID (tables 2 and 3)
-    if 1 < suffix::field(word, STREAM_TYPE, 3) {
-        return TYPE_UNKNOWN;
-    }
-    0
-}
-
 // Reads the header of a payload word.
-pub fn read(word: &[u8]) -> Header
+pub fn read(word: &[u8]) -> Reading
     ensures { λ r. ⌜ (told r ≡ reading (now (word .entry))) × Below 256 (now (word .entry)) ⌝ }
 {
-    let refusal = read_refusal(word);
-    if 0 < refusal {
-        return Header::Refused(refusal);
+    let n = fields::refusal(word);
+    if 0 < n {
+        return Reading::Refused(n);
     }
-    // RFU, STS_ID and STS_Stream_Type_ID (tables 2 and 3)
-    let rfu = bits::field(word, RFU, 4);
-    let id = suffix::field(word, STREAM_ID, 8);
-    let kind = suffix::field(word, STREAM_TYPE, 3);
-    Header::Fields { rfu, id, kind }
+    let h = fields::header_of(word);
+    Reading::Accepted(h)
 }
 
-// The payload of a word that is accepted, a part of the word itself: 1,532 bytes for stream type 1. Any other word shows an empty part.
+// The payload of a word that is accepted, a part of the word itself and as it was received: 1,532 bytes for stream type 1, eight packets
+// for type 2, whatever their parity says. Any other word shows an empty part.
 pub fn payload_of(word: &[u8]) -> &[u8]
     ensures { λ r. ⌜ now r ≡ shown (now (word .entry)) ⌝ }
 {
-    let h = read(word);
-    let Header::Fields {
-        rfu: _,
-        id: _,
-        kind,
-    } = h
-    else {
+    let refusal = fields::refusal(word);
+    if 0 < refusal {
         return &word[..0];
-    };
-    let n = packet::bytes(kind as u32);
+    }
+    let n = fields::bytes(bits::field(word, STREAM_TYPE, 3));
     &word[..n]
 }
 
-// A header in 16 bytes.
-fn put_header(out: &mut [u8], rfu: u32, id: u8, kind: u8)
-    requires { ⌜ length (now out) ≡ 16 ⌝ }
-    ensures { λ _. ⌜ now (out .exit) ≡ headerBytes rfu id kind 0 ⌝ }
+// A 32-bit number into the four bytes at a place.
+fn put32(out: &mut [u8], at: usize, v: u32)
+    requires { ⌜ at + 4 ≤ length (now out) ⌝ }
+    ensures { λ _. ⌜ now (out .exit) ≡ take at (now (out .entry)) ++ pack 4 (bits 32 v) ++ drop (at + 4) (now (out .entry)) ⌝ }
 {
-    // RFU; STS_ID, STS_Stream_Type_ID and Encap_Ver, a byte each; zeros
-    suffix::put32(out, 0, rfu);
-    suffix::put32(out, 4, id as u32 * 0x1000000 + kind as u32 * 0x10000);
-    suffix::put32(out, 8, 0);
-    suffix::put32(out, 12, 0);
+    let sink = Wide {
+        acc: 0,
+        used: 0,
+        at,
+    };
+    wide::put(out, sink, v as u64, 32);
+}
+
+// A header in 16 bytes.
+fn put_header(out: &mut [u8], h: Header)
+    requires { ⌜ length (now out) ≡ 16 ⌝ }
+    ensures { λ _. ⌜ now (out .exit) ≡ headerBytes h ⌝ }
+{
+    // RFU; stream id, stream type, Encap_Ver and parity, a byte each; First_Header_Address, two bytes; zeros
+    put32(out, 0, h.rfu);
+    put32(
+        out,
+        4,
+        h.id as u32 * 0x1000000
+            + h.kind as u32 * 0x10000
+            + h.version as u32 * 0x100
+            + h.parity as u32,
+    );
+    put32(out, 8, h.address as u32 * 0x10000);
+    put32(out, 12, 0);
 }
 
 // Reads the header of a payload word into 16 bytes and returns 0; a refusal touches nothing.
 pub fn read_into(word: &[u8], header: &mut [u8]) -> u8
-    ensures { λ r. ⌜ Is (readInto (now (word .entry)) (now (header .entry))) r (now (header .exit)) ⌝ }
+    ensures { λ r. ⌜ Is (readInto (now (word .entry)) (now (header .entry))) r (now (header .exit)) × Below 256 (now (word .entry)) ⌝ }
 {
     if header.len() != HEADER {
         return LENGTH_WRONG;
     }
     let h = read(word);
     match h {
-        Header::Refused(n) => n,
-        Header::Fields { rfu, id, kind } => {
-            put_header(header, rfu, id, kind);
+        Reading::Refused(n) => n,
+        Reading::Accepted(h) => {
+            put_header(header, h);
             0
         }
     }

@@ -4,7 +4,7 @@ use Rattle.opl.proofs.opl_payload_write.Statement.{statement}
 use Rattle.opl.proofs.opl_payload_write.Tie as tie
 use Rattle.opl.proofs.opl_payload_write.Reads as reads
 use Rattle.opl.proofs.opl_payload_write.Lts as lts
-use Rattle.payload.proofs.write.Reads as write-reads
+use Rattle.encapsulation.proofs.write.Reads as write-reads
 
 write-requires : tie.Need-write-requires
 write-requires c κs = search needs

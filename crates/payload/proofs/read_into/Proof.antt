@@ -1,12 +1,11 @@
 -- `payload::read_into` meets its contract. Assumes nothing.
 use Prim.Native.Nat.{ℕ}
-use mathlib.Core.Path.{_≡_, sym, ap, _∙_}
+use mathlib.Core.Path.{sym, ap, _∙_}
 use mathlib.Core.List.{List}
 use native.Mathlib.Omega.{arith}
-use Rattle.payload.specs.Suffix.{idOf, kindOf}
-use Rattle.payload.specs.Word.{rfuOf}
+use Rattle.bits.proofs.Below.{below-of}
 use Rattle.payload.specs.Answers.{told, headerBytes}
-use Rattle.payload.proofs.Answers.{refusal-told, fields-told, into-room, into-refused, into-done}
+use Rattle.payload.proofs.Answers.{refusal-told, header-told, into-room, into-refused, into-done}
 use borrow.Author.Needs.{needs}
 use Rattle.payload.proofs.read_into.Statement.{statement}
 use Rattle.payload.proofs.read_into.Tie as tie
@@ -17,8 +16,8 @@ use Rattle.payload.proofs.read.Reads as read-reads
 
 returns : tie.Need-returns
 returns c =
-    let a = c .before .before .before .args in
-    into-room (a .word .now) (a .header .now) (λ e. omega (arith, c .if1 .taken))
+    let s = c .before .before .before in
+    (into-room (s .args .word .now) (s .args .header .now) (λ e. omega (arith, c .if1 .taken)), below-of 256 (s .args .word .now) (λ i. omega (arith, c .before .before .shared-slice-known .given i)))
 
 read-requires : tie.Need-read-requires
 read-requires c κs = search needs
@@ -38,7 +37,7 @@ returns-2 c =
     let k = c .before .before .before in
     let a = k .before .before .before .before .args in
     let f = refusal-told (a .word .now) (g .0 .0) (ap told (sym (g .1)) ∙ k .read .ensures .0) in
-    into-refused (a .word .now) (a .header .now) (omega (arith, k .before .if1 .left)) (g .0 .0) (f .0) (f .1)
+    (into-refused (a .word .now) (a .header .now) (omega (arith, k .before .if1 .left)) (g .0 .0) (f .0) (f .1), k .read .ensures .1)
 
 same-length : tie.Need-same-length
 same-length c = search needs
@@ -51,9 +50,8 @@ returns-3 c =
     let k = h .before .before in
     let a = k .before .before .before .before .args in
     let w : List ℕ = a .word .now in
-    let f = fields-told w (g .0 .0) (g .0 .1 .0) (g .0 .1 .1 .0) (ap told (sym (g .1)) ∙ k .read .ensures .0) in
-    let e : headerBytes (g .0 .0) (g .0 .1 .0) (g .0 .1 .1 .0) 0 ≡ headerBytes (rfuOf w) (idOf w) (kindOf w) 0 = cc (f .1, f .2, f .3) in
-    into-done w (a .header .now) (omega (arith, k .before .if1 .left)) (f .0) (p .put-header .last .0) (p .put-header .ensures ∙ e)
+    let f = header-told w (g .0 .0) (ap told (sym (g .1)) ∙ k .read .ensures .0) in
+    (into-done w (a .header .now) (omega (arith, k .before .if1 .left)) (f .0) (p .put-header .last .0) (p .put-header .ensures ∙ ap headerBytes (f .1)), k .read .ensures .1)
 
 pub read-into-spec : {M : Type 1} → statement M
 read-into-spec =

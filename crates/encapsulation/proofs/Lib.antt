@@ -1,0 +1,5 @@
+pub mod Faults
+pub mod Stores
+pub mod Laid
+pub mod Answers
+pub mod Agree

@@ -1,0 +1,33 @@
+-- Of every public function of this crate: any two outcomes that its promise allows agree.
+-- Assumes nothing.
+use mathlib.Core.Path.{_≡_}
+use contract.Lifetimes.{Lfts}
+use borrow.Fn.World.{ArgsD, ResD}
+use borrow.Fn.Kinds.{endedOf}
+use denote.Ref.{now}
+use denote.Triple.Clauses.{AtExit}
+use Rattle.ground.proofs.Outcome.{same}
+use Rattle.infoword.proofs.crc as crc
+use Rattle.infoword.proofs.crc.Kinds as crc-kinds
+use Rattle.infoword.proofs.crc.Reads as crc-reads
+use Rattle.infoword.proofs.part as part
+use Rattle.infoword.proofs.part.Kinds as part-kinds
+use Rattle.infoword.proofs.part.Reads as part-reads
+use Rattle.infoword.proofs.close as close
+use Rattle.infoword.proofs.close.Kinds as close-kinds
+use Rattle.infoword.proofs.close.Reads as close-reads
+
+module _ (κs : Lfts 1) (a : ArgsD crc.signature κs) where
+  pub crc-agrees : (r r′ : ResD crc.signature κs) (s s′ : AtExit (endedOf 1 crc-kinds.ps crc-kinds.r) κs) →
+      crc-reads.Post κs a r s → crc-reads.Post κs a r′ s′ → r ≡ r′
+  crc-agrees r r′ s s′ p q = same p q
+
+module _ (κs : Lfts 1) (a : ArgsD part.signature κs) where
+  pub part-agrees : (r r′ : ResD part.signature κs) (s s′ : AtExit (endedOf 1 part-kinds.ps part-kinds.r) κs) →
+      part-reads.Post κs a r s → part-reads.Post κs a r′ s′ → now (s .0) ≡ now (s′ .0)
+  part-agrees r r′ s s′ p q = same p q
+
+module _ (κs : Lfts 1) (a : ArgsD close.signature κs) where
+  pub close-agrees : (r r′ : ResD close.signature κs) (s s′ : AtExit (endedOf 1 close-kinds.ps close-kinds.r) κs) →
+      close-reads.Post κs a r s → close-reads.Post κs a r′ s′ → now (s .0) ≡ now (s′ .0)
+  close-agrees r r′ s s′ p q = same p q

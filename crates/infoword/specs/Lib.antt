@@ -1,0 +1,3 @@
+pub mod Suffix
+pub mod Word
+pub mod Steps

@@ -1,0 +1,59 @@
+-- `payload::fields::header_of` meets its contract. Assumes nothing.
+use mathlib.Core.Path.{_≡_}
+use native.Mathlib.Omega.{arith}
+use Rattle.bits.proofs.Places.{field-lt}
+use Rattle.infoword.specs.Suffix.{idOf, kindOf, versionOf, rfuOf}
+use Rattle.payload.specs.Answers.{parityOf, headerOf}
+use borrow.Author.Needs.{needs}
+use Rattle.payload.proofs.fields.header_of.Statement.{statement}
+use Rattle.payload.proofs.fields.header_of.Tie as tie
+use Rattle.payload.proofs.fields.header_of.Reads as reads
+use Rattle.payload.proofs.fields.header_of.Lts as lts
+use Rattle.bits.proofs.field.Reads as field-reads
+use Rattle.payload.proofs.fields.field.Reads as fields-field-reads
+use Rattle.payload.proofs.fields.parity_of.Reads as parity-of-reads
+use Rattle.payload.proofs.fields.rfu_of.Reads as rfu-of-reads
+
+field-requires : tie.Need-field-requires
+field-requires c κs = search needs
+
+rfu-of-requires : tie.Need-rfu-of-requires
+rfu-of-requires c κs = search needs
+
+field-requires-2 : tie.Need-field-requires-2
+field-requires-2 c κs = search needs
+
+field-requires-3 : tie.Need-field-requires-3
+field-requires-3 c κs = search needs
+
+parity-of-requires : tie.Need-parity-of-requires
+parity-of-requires c κs = search needs
+
+cast-t7 : tie.Need-cast-t7
+cast-t7 c =
+    let k = c .before .before .before .before in
+    omega (arith, k .field .ensures, field-lt (k .before .before .args .word .now) 12268 3 (omega arith))
+
+returns : tie.Need-returns
+unfolding headerOf
+returns c =
+    let k = c .before .before .before .before in
+    let w = k .before .before .args .word .now in
+    let a : c .before .before .before .rfu-of .result ≡ rfuOf w = c .before .before .before .rfu-of .ensures in
+    let b : c .before .before .field2 .result ≡ idOf w = c .before .before .field2 .ensures in
+    let d : k .field .result ≡ kindOf w = k .field .ensures in
+    let e : c .before .field3 .result ≡ versionOf w = c .before .field3 .ensures in
+    let f : c .parity-of .result ≡ parityOf w = c .parity-of .ensures in
+    cc (a, b, d, e, f)
+
+pub header-of-spec : {M : Type 1} → statement M
+header-of-spec =
+    tie.close
+    (tie.spec
+    field-requires
+    rfu-of-requires
+    field-requires-2
+    field-requires-3
+    parity-of-requires
+    cast-t7
+    returns)
