@@ -46,14 +46,15 @@ impl Rng {
         self.below(of) < times
     }
 
-    /// A field of `width` bits, at most 31: now and then its least or greatest value.
+    /// A field of `width` bits, at most 32: now and then its least or greatest value.
     pub fn field(&mut self, width: u32) -> u32 {
-        let most = (1 << width) - 1;
-        match self.below(8) {
+        let most = (1_u64 << width) - 1;
+        let value = match self.below(8) {
             0 => 0,
             1 => most,
-            _ => self.range(0, most as usize) as u32,
-        }
+            _ => self.range(0, most as usize) as u64,
+        };
+        value as u32
     }
 
     pub fn shuffle<T>(&mut self, items: &mut [T]) {

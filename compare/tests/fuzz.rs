@@ -14,7 +14,7 @@ const ORDERS: &[(&str, &[u8])] = &[
     ("opl_preamble_form", &[1]),
     ("opl_signalling_read", &[1, 2, 5, 6, 7, 8, 9, 10, 11]),
     ("opl_signalling_write", &[1, 12, 14, 6, 13, 7, 9, 10, 11]),
-    ("opl_payload_write", &[15, 1]),
+    ("opl_payload_write", &[15, 17, 1]),
     ("opl_payload_read", &[1, 2, 5, 16, 15]),
     ("opl_encode", &[1, 3, 4, 1, 2]),
     ("opl_place", &[1, 3, 4, 1]),

@@ -1,4 +1,4 @@
-//! The generator gives SplitMix64's published numbers.
+//! The generator gives SplitMix64's published numbers, and what is made of them lies in its bounds.
 
 use compare::rng::Rng;
 
@@ -25,4 +25,17 @@ fn below_reaches_every_number_and_no_other() {
         met[rng.below(7)] = true;
     }
     assert_eq!(met, [true; 7]);
+}
+
+#[test]
+fn a_field_reaches_both_ends_and_no_further() {
+    let mut rng = Rng::new(6);
+    for width in [1, 4, 31, 32] {
+        let most = u32::MAX >> (32 - width);
+        let fields: Vec<u32> = (0..200).map(|_| rng.field(width)).collect();
+        assert!(fields.iter().all(|field| *field <= most), "{width} bits");
+        for end in [0, most] {
+            assert!(fields.contains(&end), "{end} of {width} bits");
+        }
+    }
 }

@@ -1,53 +1,48 @@
-//! The second implementation's payload word.
+//! The second implementation's payload word: types 0 and 1, and what all types share.
 
 use compare::inputs;
 use compare::rng::Rng;
 use compare::second::payload::{payload_of, read, seal, write, Header};
 
-#[test]
-fn written_words_are_read() {
-    let mut rng = Rng::new(20);
-    for id in 0..=255u8 {
-        let packet = rng.bytes(1_532);
-        let word = write(1, id, &packet, 1_536).unwrap();
-        assert_eq!(word.len(), 1_536);
-        assert_eq!(word[..1_532], packet[..]);
-        assert_eq!(
-            read(&word),
-            Ok(Header {
-                rfu: 0,
-                id,
-                ty: 1,
-                encap: 0
-            })
-        );
-        assert_eq!(payload_of(&word), Ok(&packet[..]));
-        let dummy = write(0, id, &[], 1_536).unwrap();
-        assert!(dummy[..1_532].iter().all(|byte| *byte == 0));
-        assert_eq!(
-            read(&dummy),
-            Ok(Header {
-                rfu: 0,
-                id,
-                ty: 0,
-                encap: 0
-            })
-        );
-        assert_eq!(payload_of(&dummy), Ok(&[][..]));
+/// Of type 0 or 1, without a null packet.
+fn plain(ty: u32, id: u8, payload: &[u8], length: usize) -> Result<Vec<u8>, u8> {
+    write(ty, id, 0, payload, &[], length)
+}
+
+/// What is read of a word of type 0 or 1.
+fn plain_header(rfu: u32, id: u8, ty: u8) -> Header {
+    Header {
+        rfu,
+        id,
+        ty,
+        encap: 0,
+        parity: 0,
     }
 }
 
 #[test]
-fn header_bits_by_hand() {
-    // RFU 0000, id 1010 0101, type 001, Encap_Ver 000: 0A 50.. and the CRC of
-    // those 18 bits by the register of annex B, worked bit by bit here.
-    let word = write(1, 0xA5, &[0xFF; 1_532], 1_536).unwrap();
-    let header: Vec<u8> = "000010100101001000"
-        .bytes()
-        .map(|digit| digit - b'0')
-        .collect();
+fn written_words_are_read() {
+    let mut rng = Rng::new(20);
+    for id in 0..=255u8 {
+        let payload = rng.bytes(1_532);
+        let word = plain(1, id, &payload, 1_536).unwrap();
+        assert_eq!(word.len(), 1_536);
+        assert_eq!(word[..1_532], payload[..]);
+        assert_eq!(read(&word), Ok(plain_header(0, id, 1)));
+        assert_eq!(payload_of(&word), Ok(&payload[..]));
+        let dummy = plain(0, id, &[], 1_536).unwrap();
+        assert!(dummy[..1_532].iter().all(|byte| *byte == 0));
+        assert_eq!(read(&dummy), Ok(plain_header(0, id, 0)));
+        assert_eq!(payload_of(&dummy), Ok(&[][..]));
+    }
+}
+
+/// The header's digits, its CRC by the register of annex B, worked bit by bit here, and the spare bits; zeros in front
+/// where these are no whole bytes.
+fn header_bytes(header: &str) -> Vec<u8> {
+    let mut digits: Vec<u8> = header.bytes().map(|digit| digit - b'0').collect();
     let mut register = [1u8; 8]; // b0 to b7
-    for bit in &header {
+    for bit in &digits {
         let back = register[7] ^ bit;
         for stage in (1..8).rev() {
             register[stage] = register[stage - 1];
@@ -57,14 +52,31 @@ fn header_bits_by_hand() {
             register[stage] ^= back;
         }
     }
-    let mut digits = header;
     digits.extend(register.iter().rev().map(|stage| 1 - stage));
     digits.extend([0; 6]);
-    let bytes: Vec<u8> = digits
-        .chunks(8)
+    let bytes = digits.rchunks(8).rev();
+    bytes
         .map(|byte| byte.iter().fold(0, |value, bit| value << 1 | bit))
-        .collect();
-    assert_eq!(word[1_532..], bytes[..]);
+        .collect()
+}
+
+/// RFU 0000, id 1010 0101, type 001, Encap_Ver 000.
+#[test]
+fn header_bits_by_hand() {
+    let word = plain(1, 0xA5, &[0xFF; 1_532], 1_536).unwrap();
+    assert_eq!(word[1_532..], header_bytes("000010100101001000"));
+    assert_eq!(word[1_532..], [0x0A, 0x52, 0x35, 0x80]);
+}
+
+/// RFU of 32 bits, id 1010 0101, type 010, Encap_Ver 000. Four bits of the parity stand before them.
+#[test]
+fn header_bits_of_packets_by_hand() {
+    let header = format!("{:032b}10100101010000", 0);
+    assert_eq!(header.len(), 46);
+    let word = write(2, 0xA5, 8, &[0; 1_504], &[0; 188], 1_536).unwrap();
+    assert_eq!(word[1_528..], header_bytes(&header));
+    assert_eq!(word[1_528..], [0, 0, 0, 0, 0x0A, 0x54, 0x22, 0x40]);
+    assert!(word[..1_528].iter().all(|byte| *byte == 0));
 }
 
 #[test]
@@ -74,15 +86,7 @@ fn rfu_and_dummy_bytes_are_taken_as_they_stand() {
         for ty in 0..2 {
             let mut word = rng.bytes(1_536);
             inputs::set_payload_header(&mut word, rfu, 77, ty, 0);
-            assert_eq!(
-                read(&word),
-                Ok(Header {
-                    rfu,
-                    id: 77,
-                    ty: ty as u8,
-                    encap: 0
-                })
-            );
+            assert_eq!(read(&word), Ok(plain_header(rfu, 77, ty as u8)));
             let payload = payload_of(&word).unwrap();
             assert_eq!(payload, if ty == 0 { &[][..] } else { &word[..1_532] });
         }
@@ -91,10 +95,8 @@ fn rfu_and_dummy_bytes_are_taken_as_they_stand() {
         let word = inputs::payload_word(&mut rng);
         let header = read(&word).unwrap();
         if header.ty == 1 && header.rfu == 0 {
-            assert_eq!(
-                write(1, header.id, payload_of(&word).unwrap(), 1_536),
-                Ok(word)
-            );
+            let again = plain(1, header.id, payload_of(&word).unwrap(), 1_536);
+            assert_eq!(again, Ok(word));
         }
     }
 }
@@ -112,9 +114,9 @@ fn every_refusal_of_the_reader() {
     assert_eq!(inputs::refused_payload_word(&mut rng, 6), None);
     // The order: 1 2 5 16 15, each on top of the next.
     let mut word = vec![0; 1_536];
-    inputs::set_payload_header(&mut word, 0, 0, 2, 0);
+    inputs::set_payload_header(&mut word, 0, 0, 3, 0);
     assert_eq!(read(&word), Err(15));
-    inputs::set_payload_header(&mut word, 0, 0, 2, 1);
+    inputs::set_payload_header(&mut word, 0, 0, 3, 1);
     assert_eq!(read(&word), Err(16));
     word[1_534] ^= 1;
     assert_eq!(read(&word), Err(5));
@@ -124,6 +126,7 @@ fn every_refusal_of_the_reader() {
     assert_eq!(read(&word), Err(1));
 }
 
+/// All before them is zero: packets of zeros with the parity that they have, and the rest of a longer RFU.
 #[test]
 fn every_header_of_18_bits() {
     let mut word = vec![0u8; 1_536];
@@ -134,11 +137,9 @@ fn every_header_of_18_bits() {
         word[1_534] = (header << 6) as u8;
         seal(&mut word);
         let expected = match (encap, ty) {
-            (0, 0 | 1) => Ok(Header {
-                rfu,
-                id: id as u8,
-                ty: ty as u8,
-                encap: 0,
+            (0, 0..=2) => Ok(Header {
+                parity: if ty == 2 { 0b1111 } else { 0 },
+                ..plain_header(rfu, id as u8, ty as u8)
             }),
             (0, _) => Err(15),
             _ => Err(16),
@@ -149,17 +150,30 @@ fn every_header_of_18_bits() {
 
 #[test]
 fn every_refusal_of_the_writer() {
-    let packet = vec![1; 1_532];
-    for ty in [2, 3, 4, 7, 8, 255, 256, 257, 1 << 16, u32::MAX] {
-        assert_eq!(write(ty, 0, &packet, 1_536), Err(15));
-        assert_eq!(write(ty, 0, &[], 0), Err(15));
+    let payload = vec![1; 1_532];
+    for ty in [3, 4, 7, 8, 255, 256, 257, 258, 1 << 16, u32::MAX] {
+        assert_eq!(plain(ty, 0, &payload, 1_536), Err(15));
+        assert_eq!(plain(ty, 0, &[], 0), Err(15));
     }
-    assert_eq!(write(0, 0, &packet, 1_536), Err(1));
-    assert_eq!(write(0, 0, &[0], 1_536), Err(1));
-    assert_eq!(write(1, 0, &[], 1_536), Err(1));
-    assert_eq!(write(1, 0, &packet[1..], 1_536), Err(1));
+    assert_eq!(plain(0, 0, &payload, 1_536), Err(1));
+    assert_eq!(plain(0, 0, &[0], 1_536), Err(1));
+    assert_eq!(plain(1, 0, &[], 1_536), Err(1));
+    assert_eq!(plain(1, 0, &payload[1..], 1_536), Err(1));
     for length in [0, 1_532, 1_535, 1_537] {
-        assert_eq!(write(0, 0, &[], length), Err(1));
-        assert_eq!(write(1, 0, &packet, length), Err(1));
+        assert_eq!(plain(0, 0, &[], length), Err(1));
+        assert_eq!(plain(1, 0, &payload, length), Err(1));
+    }
+}
+
+#[test]
+fn count_and_null_packet_are_for_type_2_alone() {
+    let payload = vec![1; 1_532];
+    for count in [0, 8, 9, u32::MAX] {
+        for null_packet in [&[][..], &[7; 188], &[7; 189]] {
+            let dummy = write(0, 9, count, &[], null_packet, 1_536);
+            assert_eq!(dummy, plain(0, 9, &[], 1_536));
+            let transparent = write(1, 9, count, &payload, null_packet, 1_536);
+            assert_eq!(transparent, plain(1, 9, &payload, 1_536));
+        }
     }
 }

@@ -2,7 +2,9 @@
 
 use super::library;
 use super::row::{row, Row, Tables, Title};
-use crate::inputs::{infoword, points_at_the_bound, set_payload_header, values, Coding};
+use crate::inputs::{
+    infoword, packets, points_at_the_bound, set_payload_header, transport_word, values, Coding,
+};
 use crate::rng::Rng;
 use crate::second::turbo::{self, Encoder, PAYLOAD_BLOCK, SIGNALLING_BLOCK};
 use crate::second::{payload, preamble, signalling};
@@ -19,6 +21,8 @@ const CODINGS: [Coding; 5] = [
     coding(0, SIGNALLING_BLOCK),
 ];
 
+const STREAM_TYPES: [u32; 3] = [payload::DUMMY, payload::TRANSPARENT, payload::TRANSPORT];
+
 const STORY: &[u8] = include_bytes!("../../../examples/sheets/story.sheet");
 
 const fn coding(pattern: u32, block: usize) -> Coding {
@@ -32,8 +36,8 @@ pub fn rows(encoder: &Encoder) -> Rows<'_> {
     rows.extend(CODINGS.map(place));
     rows.extend(sheets().map(|(case, sheet)| signalling_write(case, sheet)));
     rows.extend(sheets().map(|(case, sheet)| signalling_read(case, sheet)));
-    rows.extend([0, 1].map(payload_write));
-    rows.extend([0, 1].map(payload_read));
+    rows.extend(STREAM_TYPES.map(payload_write));
+    rows.extend(STREAM_TYPES.map(payload_read));
     rows.extend([("upright", 0), ("inverted", 1)].map(sof_preamble));
     rows.extend(preambles().map(preamble_form));
     rows
@@ -136,18 +140,29 @@ fn payload_title(function: &'static str, ty: u32) -> Title {
     }
 }
 
+/// Of type 2 with eight packets, so that the null packet is lent and not written.
 fn payload_write<'a>(ty: u32) -> Box<dyn Row + 'a> {
     const ID: u8 = 9;
+    const COUNT: u32 = payload::TS_PACKETS;
+    const NULL: [u8; payload::TS_PACKET_BYTES] = [0xFF; payload::TS_PACKET_BYTES];
     row(
         payload_title("opl_payload_write", ty),
         payload::WORD_BYTES,
-        move |rng| rng.bytes(ty as usize * payload::PACKET_BYTES),
-        move |payload, word| library::payload_write(ty, ID, payload, word),
+        move |rng| written_payload(rng, ty),
+        move |payload, word| library::payload_write(ty, ID, COUNT, payload, &NULL, word),
         move |payload, word| {
-            *word = payload::write(ty, ID, payload, payload::WORD_BYTES)?;
+            *word = payload::write(ty, ID, COUNT, payload, &NULL, payload::WORD_BYTES)?;
             Ok(())
         },
     )
+}
+
+fn written_payload(rng: &mut Rng, ty: u32) -> Vec<u8> {
+    match ty {
+        payload::DUMMY => Vec::new(),
+        payload::TRANSPARENT => rng.bytes(payload::PAYLOAD_BYTES),
+        _ => packets(rng, payload::TS_PACKETS),
+    }
 }
 
 fn payload_read<'a>(ty: u32) -> Box<dyn Row + 'a> {
@@ -160,9 +175,13 @@ fn payload_read<'a>(ty: u32) -> Box<dyn Row + 'a> {
     )
 }
 
+/// Any word of the type, one of type 2 with the parity that its packets have.
 fn payload_word(rng: &mut Rng, ty: u32) -> Vec<u8> {
-    let mut word = rng.bytes(payload::WORD_BYTES);
-    let (rfu, id) = (rng.field(4), rng.field(8));
+    let mut word = match ty {
+        payload::TRANSPORT => transport_word(rng),
+        _ => rng.bytes(payload::WORD_BYTES),
+    };
+    let (rfu, id) = (rng.field(payload::rfu_bits(ty)), rng.field(8));
     set_payload_header(&mut word, rfu, id, ty, 0);
     word
 }

@@ -5,23 +5,28 @@ mod descriptions;
 mod payload;
 mod preamble;
 mod sheets;
+mod transport;
 mod turbo;
 mod words;
 
 pub use descriptions::{description, plain, plain_pipe, points_at_the_bound};
 pub use payload::{
-    mutated_payload_word, payload_word, refused_payload_word, set_payload_header, PAYLOAD_REFUSALS,
+    mutated_payload_word, payload_word, payload_word_of, refused_payload_word, set_payload_header,
+    PAYLOAD_REFUSALS,
 };
 pub use preamble::{preamble_bytes, preamble_choice};
 pub use sheets::{mutated_sheet, refused_sheet, sheet, SHEET_REFUSALS};
+pub use transport::{
+    add_parts, codeword_places, distinct_places, flip_places, odd_places, packets, transport_word,
+};
 pub use turbo::{coding, codings, infoword, values, Coding};
 pub use words::{mutated_word, refused_word, room, word, WORD_REFUSALS};
 
 use crate::rng::Rng;
 
 /// Lengths that the library's buffers have, the lanes' left out: one may be taken for another.
-const LENGTHS: [usize; 14] = [
-    16, 21, 32, 96, 121, 128, 480, 1_532, 1_536, 1_792, 2_571, 3_072, 3_840, 7_680,
+const LENGTHS: [usize; 16] = [
+    16, 21, 32, 96, 121, 128, 188, 480, 1_504, 1_532, 1_536, 1_792, 2_571, 3_072, 3_840, 7_680,
 ];
 
 /// A length that is none of the right ones: close to one, equal to one when cut to 8 or 16 bits, 0, another
@@ -75,6 +80,10 @@ fn flip(rng: &mut Rng, bytes: &mut [u8], from: usize, to: usize) {
     let most = [1, 1, 3, 12][rng.below(4)];
     for _ in 0..rng.range(1, most) {
         let index = rng.range(from, to - 1);
-        bytes[index / 8] ^= 0x80 >> (index % 8);
+        flip_bit(bytes, index);
     }
+}
+
+pub fn flip_bit(bytes: &mut [u8], index: usize) {
+    bytes[index / 8] ^= 0x80 >> (index % 8);
 }

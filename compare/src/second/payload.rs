@@ -1,21 +1,39 @@
-//! The payload word (clauses 4.3.1 and 4.3.2): 1,532 bytes, then RFU 4 bits,
-//! stream id 8, stream type 3, Encap_Ver 3, CRC-8 over those 18 bits, 6 spare
-//! bits.
+//! The payload word (clauses 4.3.1 to 4.3.3): the payload; for type 2 the parity of its packets; the header, that is
+//! RFU, stream id 8 bits, stream type 3, Encap_Ver 3; CRC-8 over the header; 6 spare bits.
 
-use super::bits::{bits, BitReader, BitWriter};
+use super::bits::{bit, bits, BitReader, BitWriter};
 use super::crc::PAYLOAD;
+use super::parity::{self, CODEWORD_BITS, MESSAGE_BITS, PARITY_BITS};
 use super::refusal;
 
 /// A payload word in bytes: 12,282 bits and 6 spare bits.
 pub const WORD_BYTES: usize = 1_536;
-/// The bytes of a payload packet.
-pub const PACKET_BYTES: usize = 1_532;
+/// The payload of a transparent word.
+pub const PAYLOAD_BYTES: usize = 1_532;
 /// What the reader reports of a header, in bytes.
 pub const HEADER_BYTES: usize = 16;
 
-const HEADER_AT: usize = 8 * PACKET_BYTES;
-const CRC_AT: usize = HEADER_AT + 18;
-const SPARE_AT: usize = CRC_AT + 8;
+/// A transport stream packet in bytes, and how many a word carries.
+pub const TS_PACKET_BYTES: usize = 188;
+pub const TS_PACKETS: u32 = 8;
+pub const TS_PAYLOAD_BYTES: usize = 1_504;
+/// The parts of a word's packets that have a parity each.
+pub const PARTS: usize = 4;
+
+/// The stream types (table 1).
+pub const DUMMY: u32 = 0;
+pub const TRANSPARENT: u32 = 1;
+pub const TRANSPORT: u32 = 2;
+
+/// Where the header of a transport word begins, with RFU (table 4). It is the longest that there is.
+pub const TS_HEADER_AT: usize = 12_228;
+
+/// Where other fields begin (tables 2 to 4); but for the first, they stand alike in all types.
+const PARITY_PARTS_AT: usize = 12_032;
+const ID_AT: usize = 12_260;
+const TYPE_AT: usize = 12_268;
+const CRC_AT: usize = 12_274;
+const SPARE_AT: usize = 12_282;
 
 /// What a payload word says of itself.
 #[derive(Clone, Copy, Debug, PartialEq, Eq)]
@@ -24,30 +42,92 @@ pub struct Header {
     pub id: u8,
     pub ty: u8,
     pub encap: u8,
+    /// Bit k is set where part k of a transport word holds.
+    pub parity: u8,
 }
 
-/// A payload word. Type 0 takes an empty payload, type 1 one of 1,532 bytes.
-/// Refusals in the order 15, 1.
-pub fn write(ty: u32, id: u8, payload: &[u8], word_len: usize) -> Result<Vec<u8>, u8> {
-    let packet = match ty {
-        0 => 0,
-        1 => PACKET_BYTES,
+/// The bits of RFU.
+pub fn rfu_bits(ty: u32) -> u32 {
+    if ty == TRANSPORT {
+        32
+    } else {
+        4
+    }
+}
+
+/// The bits of the header, all of which the CRC is over: 46 for type 2 and 18 for any other (02, 2026-02), though
+/// the standard has 46 for type 3 too.
+pub fn header_bits(ty: u32) -> usize {
+    let from_id_on = CRC_AT - ID_AT;
+    rfu_bits(ty) as usize + from_id_on
+}
+
+/// A payload word. Type 0 takes an empty payload, type 1 one of 1,532 bytes, type 2 one of `count` packets, behind
+/// which the null packet fills up the eight. Refusals in the order 15, 17, 1.
+pub fn write(
+    ty: u32,
+    id: u8,
+    count: u32,
+    payload: &[u8],
+    null_packet: &[u8],
+    word_len: usize,
+) -> Result<Vec<u8>, u8> {
+    let payload_len = match ty {
+        DUMMY => 0,
+        TRANSPARENT => PAYLOAD_BYTES,
+        TRANSPORT if count > TS_PACKETS => return Err(refusal::PACKET_COUNT),
+        TRANSPORT => count as usize * TS_PACKET_BYTES,
         _ => return Err(refusal::STREAM_TYPE),
     };
-    if payload.len() != packet || word_len != WORD_BYTES {
+    let null_fits = ty != TRANSPORT || null_packet.len() == TS_PACKET_BYTES;
+    if payload.len() != payload_len || !null_fits || word_len != WORD_BYTES {
         return Err(refusal::LENGTH);
     }
     let mut to = BitWriter::new();
     to.whole(payload);
-    to.zeros_to(HEADER_AT);
-    to.number(4, 0);
+    if ty == TRANSPORT {
+        for _ in count..TS_PACKETS {
+            to.whole(null_packet);
+        }
+        put_parity_parts(&mut to);
+    }
+    // the dummy's payload, and RFU
+    to.zeros_to(ID_AT);
     to.number(8, u32::from(id));
     to.number(3, ty);
     to.number(3, 0);
-    let crc = PAYLOAD.word(bits(to.bytes(), HEADER_AT, CRC_AT));
+    let crc = header_crc(to.bytes(), header_bits(ty));
     to.number(8, crc);
     to.zeros_to(8 * WORD_BYTES);
     Ok(to.into_bytes())
+}
+
+/// The parity of each part, behind the eight packets.
+fn put_parity_parts(to: &mut BitWriter) {
+    for part in 0..PARTS {
+        let from = part * MESSAGE_BITS;
+        let message: Vec<bool> = bits(to.bytes(), from, from + MESSAGE_BITS).collect();
+        for parity in &parity::codeword(&message)[MESSAGE_BITS..] {
+            to.flag(*parity);
+        }
+    }
+}
+
+/// Where bit `place` of a part's codeword stands in the word: first its message, then its parity.
+pub fn codeword_at(part: usize, place: usize) -> usize {
+    if place < MESSAGE_BITS {
+        part * MESSAGE_BITS + place
+    } else {
+        PARITY_PARTS_AT + part * PARITY_BITS + (place - MESSAGE_BITS)
+    }
+}
+
+/// Whether the parity of a part of a transport word holds.
+fn part_holds(word: &[u8], part: usize) -> bool {
+    let received: Vec<bool> = (0..CODEWORD_BITS)
+        .map(|place| bit(word, codeword_at(part, place)))
+        .collect();
+    parity::holds(&received)
 }
 
 /// The header of a payload word. Refusals in the order 1 2 5 16 15.
@@ -58,26 +138,45 @@ pub fn read(word: &[u8]) -> Result<Header, u8> {
     if bits(word, SPARE_AT, 8 * WORD_BYTES).any(|spare| spare) {
         return Err(refusal::SPARE);
     }
-    let mut from = BitReader::at(word, HEADER_AT);
-    let header = Header {
-        rfu: from.number(4),
-        id: from.number(8) as u8,
-        ty: from.number(3) as u8,
-        encap: from.number(3) as u8,
-    };
-    if from.number(8) != PAYLOAD.word(bits(word, HEADER_AT, CRC_AT)) {
+    // by the word's own bits, before the CRC is known to hold
+    let ty = type_of(word);
+    let mut from = BitReader::at(word, CRC_AT - header_bits(ty));
+    let rfu = from.number(rfu_bits(ty));
+    let id = from.number(8) as u8;
+    from.number(3);
+    let encap = from.number(3) as u8;
+    if from.number(8) != header_crc(word, header_bits(ty)) {
         return Err(refusal::CRC);
     }
-    if header.encap != 0 {
+    if encap != 0 {
         return Err(refusal::ENCAP);
     }
-    if header.ty > 1 {
-        return Err(refusal::STREAM_TYPE);
-    }
-    Ok(header)
+    let parity = match ty {
+        DUMMY | TRANSPARENT => 0,
+        TRANSPORT => (0..PARTS)
+            .map(|part| u8::from(part_holds(word, part)) << part)
+            .sum(),
+        _ => return Err(refusal::STREAM_TYPE),
+    };
+    Ok(Header {
+        rfu,
+        id,
+        ty: ty as u8,
+        encap,
+        parity,
+    })
 }
 
-/// What the reader reports, as include/opl.h lays it out: RFU in four bytes, id, type, Encap_Ver, zeros.
+fn type_of(word: &[u8]) -> u32 {
+    BitReader::at(word, TYPE_AT).number(3)
+}
+
+/// The CRC of that many bits, the last that stand before the CRC itself.
+fn header_crc(word: &[u8], covered: usize) -> u32 {
+    PAYLOAD.word(bits(word, CRC_AT - covered, CRC_AT))
+}
+
+/// What the reader reports, as include/opl.h lays it out: RFU in four bytes, id, type, Encap_Ver, parity, zeros.
 /// Another length than 16 is refused as that of the word is.
 pub fn report(word: &[u8], report_len: usize) -> Result<[u8; HEADER_BYTES], u8> {
     if report_len != HEADER_BYTES {
@@ -86,24 +185,29 @@ pub fn report(word: &[u8], report_len: usize) -> Result<[u8; HEADER_BYTES], u8> 
     let header = read(word)?;
     let mut report = [0; HEADER_BYTES];
     report[..4].copy_from_slice(&header.rfu.to_be_bytes());
-    report[4..7].copy_from_slice(&[header.id, header.ty, header.encap]);
+    report[4..8].copy_from_slice(&[header.id, header.ty, header.encap, header.parity]);
     Ok(report)
 }
 
-/// The payload of a word that `read` accepts: the first 1,532 bytes for type
-/// 1, nothing for type 0 whatever they hold.
+/// The payload of a word that `read` accepts: the first 1,532 bytes for type 1 and the first 1,504 for type 2, as they
+/// stand, whatever the parity says; nothing for type 0 whatever they hold.
 pub fn payload_of(word: &[u8]) -> Result<&[u8], u8> {
     let header = read(word)?;
-    Ok(if header.ty == 0 {
-        &[]
-    } else {
-        &word[..PACKET_BYTES]
+    Ok(match u32::from(header.ty) {
+        TRANSPARENT => &word[..PAYLOAD_BYTES],
+        TRANSPORT => &word[..TS_PAYLOAD_BYTES],
+        _ => &[],
     })
 }
 
-/// Gives 1,536 bytes the CRC of their 18 header bits, and spare bits of zero.
+/// Gives 1,536 bytes the CRC of their header, and spare bits of zero.
 pub fn seal(word: &mut [u8]) {
-    let crc = PAYLOAD.word(bits(word, HEADER_AT, CRC_AT));
+    seal_over(word, header_bits(type_of(word)));
+}
+
+/// Gives 1,536 bytes a CRC over that many bits, whichever their type asks for, and spare bits of zero.
+pub fn seal_over(word: &mut [u8], covered: usize) {
+    let crc = header_crc(word, covered);
     // The CRC begins two bits into the last but one byte.
     word[WORD_BYTES - 2] = word[WORD_BYTES - 2] & 0xC0 | (crc >> 2) as u8;
     word[WORD_BYTES - 1] = (crc << 6) as u8;

@@ -1,4 +1,4 @@
-//! The refusal numbers of 01.
+//! The refusal numbers of 01, and those that the requests of 02 add.
 
 /// A lent length is wrong.
 pub const LENGTH: u8 = 1;
@@ -28,7 +28,9 @@ pub const HEADER: u8 = 12;
 pub const COUNTS: u8 = 13;
 /// A section's top bits set.
 pub const SECTION_TOP: u8 = 14;
-/// Stream type not 0 or 1.
+/// Stream type above 2.
 pub const STREAM_TYPE: u8 = 15;
 /// Encap_Ver not 0.
 pub const ENCAP: u8 = 16;
+/// Packet count above 8.
+pub const PACKET_COUNT: u8 = 17;
