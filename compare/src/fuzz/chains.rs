@@ -6,18 +6,25 @@ use crate::calls::{
     Call, Encode, PayloadRead, PayloadWrite, Place, Preamble, PreambleForm, SignallingRead,
     SignallingWrite,
 };
-use crate::inputs::{codings, Coding};
+use crate::inputs::{add_parts, codings, flip_bit, flip_places, odd_places, Coding};
 use crate::second::bits::{bit, bits};
+use crate::second::payload::{self, PARTS, TRANSPORT};
 use crate::second::preamble::{Form, FORM_BYTES};
-use crate::second::{payload, signalling};
+use crate::second::signalling;
 
-pub(super) const CHAINS: [fn(&mut Trial) -> Verdict; 5] = [
+pub(super) const CHAINS: [fn(&mut Trial) -> Verdict; 8] = [
     preamble_and_form,
     sheet_and_back,
     word_and_back,
     signalling_to_lane,
     payload_to_lane,
+    damaged_header,
+    damaged_packets,
+    sum_of_packets,
 ];
+
+/// A header's parity where all parts hold.
+const ALL_HOLD: u8 = (1 << PARTS) - 1;
 
 /// A preamble is written; its form is the one that was asked for.
 fn preamble_and_form(trial: &mut Trial) -> Verdict {
@@ -74,9 +81,79 @@ fn payload_to_lane(trial: &mut Trial) -> Verdict {
     let header = held(&mut trial.rng, payload::HEADER_BYTES);
     let reading = PayloadRead { word, header };
     let header = trial.call(&reading, Some(0))?.header;
-    let began = [writing.id, writing.r#type as u8];
-    same(&reading, &header[4..6], &began)?;
+    let parity = match writing.r#type {
+        TRANSPORT => ALL_HOLD,
+        _ => 0,
+    };
+    let began = [writing.id, writing.r#type as u8, 0, parity];
+    same(&reading, &header[4..8], &began)?;
     code_and_place(trial, reading.word)
+}
+
+/// A payload word is written, some bits from its header on are changed, and it is read, as it is and with the CRC put
+/// right again. What comes of it is open.
+fn damaged_header(trial: &mut Trial) -> Verdict {
+    let writing = PayloadWrite::accepted(&mut trial.rng);
+    let mut word = trial.call(&writing, Some(0))?.word;
+    let end = 8 * word.len();
+    for _ in 0..trial.rng.range(1, 3) {
+        let index = trial.rng.range(payload::TS_HEADER_AT, end - 1);
+        flip_bit(&mut word, index);
+    }
+    let header = held(&mut trial.rng, payload::HEADER_BYTES);
+    let mut reading = PayloadRead { word, header };
+    trial.call(&reading, None)?;
+    payload::seal(&mut reading.word);
+    trial.call(&reading, None).map(drop)
+}
+
+/// Packets are written, and an odd number of bits of some parts is changed: just these parts do not hold.
+fn damaged_packets(trial: &mut Trial) -> Verdict {
+    let damaged = Damaged::packets(trial)?;
+    damaged.read(trial)
+}
+
+/// The same where other packets and their parity are added to what was damaged: a sum of codewords is one.
+fn sum_of_packets(trial: &mut Trial) -> Verdict {
+    let mut damaged = Damaged::packets(trial)?;
+    let writing = PayloadWrite::of_type(&mut trial.rng, TRANSPORT);
+    let other = trial.call(&writing, Some(0))?.word;
+    add_parts(&mut damaged.word, &other);
+    damaged.read(trial)
+}
+
+/// A word of packets, some of whose parts do not hold.
+struct Damaged {
+    word: Vec<u8>,
+    id: u8,
+    /// Bit k is set where part k holds.
+    holding: u8,
+}
+
+impl Damaged {
+    fn packets(trial: &mut Trial) -> Result<Damaged, Fault> {
+        let writing = PayloadWrite::of_type(&mut trial.rng, TRANSPORT);
+        let mut word = trial.call(&writing, Some(0))?.word;
+        let mut holding = ALL_HOLD;
+        for part in 0..PARTS {
+            if trial.rng.flag() {
+                flip_places(&mut word, part, &odd_places(&mut trial.rng));
+                holding &= !(1 << part);
+            }
+        }
+        let id = writing.id;
+        Ok(Damaged { word, id, holding })
+    }
+
+    /// Reads the word. Its header was not changed.
+    fn read(self, trial: &mut Trial) -> Verdict {
+        let Damaged { word, id, holding } = self;
+        let header = held(&mut trial.rng, payload::HEADER_BYTES);
+        let reading = PayloadRead { word, header };
+        let header = trial.call(&reading, Some(0))?.header;
+        let due = [0, 0, 0, 0, id, TRANSPORT as u8, 0, holding];
+        same(&reading, &header[..8], &due)
+    }
 }
 
 /// Encodes a word under a pattern of its block and places its code bits.
