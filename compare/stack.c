@@ -132,8 +132,19 @@ struct crc {
     uint32_t polynomial;
 };
 
-static const struct crc signalling_crc = {0, 750, 12, 0x80F};
-static const struct crc payload_crc = {8 * OPL_PAYLOAD_BYTES, 8 * OPL_PAYLOAD_BYTES + 18, 8, 0x2F};
+static struct crc signalling_crc(const uint8_t *word)
+{
+    (void)word;
+    return (struct crc){0, 750, 12, 0x80F};
+}
+
+/* By the word's stream type: over 46 bits for type 2, over 18 for any other. */
+static struct crc payload_crc(const uint8_t *word)
+{
+    enum { TYPE_AT = 12268, CRC_AT = 12274 };
+    int type = bit_of(word, TYPE_AT) << 2 | bit_of(word, TYPE_AT + 1) << 1 | bit_of(word, TYPE_AT + 2);
+    return (struct crc){CRC_AT - (type == 2 ? 46 : 18), CRC_AT, 8, 0x2F};
+}
 
 /* Puts the CRC right, so that a changed word is refused for what comes after. */
 static void seal(uint8_t *word, struct crc crc)
@@ -150,9 +161,11 @@ static void seal(uint8_t *word, struct crc crc)
 }
 
 /* Has a word read as it is, at a wrong length, and with each bit from crc.from on flipped, sealed again or not. */
-static void measure_reading(int which, struct crc crc, uint8_t *word, size_t n, void *to, size_t m)
+static void measure_reading(int which, struct crc (*crc_of)(const uint8_t *), uint8_t *word, size_t n, void *to,
+                            size_t m)
 {
     struct arguments a = {.buffer = {{word, n}, {to, m}}};
+    struct crc crc = crc_of(word);
     if (measure(which, a) != OPL_ACCEPTED)
         fail("a word that was written is not read");
     a.buffer[1].n--;
@@ -162,7 +175,7 @@ static void measure_reading(int which, struct crc crc, uint8_t *word, size_t n, 
         flip(word, i);
         measure(which, a);
         if (i < crc.to) {
-            seal(word, crc);
+            seal(word, crc_of(word));
             measure(which, a);
         }
         flip(word, i);
@@ -198,18 +211,30 @@ static void measure_file(const char *name)
     measure_sheet(sheet, n);
 }
 
+/* Has a payload of that many packets and bytes written, and with a null packet that is too short. */
+static void measure_packets(uint32_t type, uint32_t count, uint8_t *payload, size_t n)
+{
+    static uint8_t null_packet[OPL_TS_PACKET_BYTES], word[OPL_PAYLOAD_WORD_BYTES], header[OPL_PAYLOAD_HEADER_BYTES];
+    struct arguments a = {{type, 9, count}, {{payload, n}, {null_packet, sizeof null_packet}, {word, sizeof word}}};
+    memset(null_packet, 0xFF, sizeof null_packet);
+    if (measure(PAYLOAD_WRITE, a) == OPL_ACCEPTED)
+        measure_reading(PAYLOAD_READ, payload_crc, word, sizeof word, header, sizeof header);
+    a.buffer[1].n--;
+    measure(PAYLOAD_WRITE, a);
+}
+
+/* Has each type tried, and the one after the last, with each count of packets, and one more, and with each length. */
 static void measure_payload(void)
 {
-    static uint8_t payload[OPL_PAYLOAD_BYTES], word[OPL_PAYLOAD_WORD_BYTES], header[OPL_PAYLOAD_HEADER_BYTES];
+    enum { TYPES = 4, COUNTS = OPL_TS_PACKETS + 2 };
+    static uint8_t payload[COUNTS * OPL_TS_PACKET_BYTES];
     memset(payload, 0x5A, sizeof payload);
-    for (uint32_t type = 0; type < 3; type++) {
-        struct arguments a = {{type, 9}, {{payload, 0}, {word, sizeof word}}};
-        for (size_t n = 0; n <= sizeof payload; n += sizeof payload) {
-            a.buffer[0].n = n;
-            if (measure(PAYLOAD_WRITE, a) == OPL_ACCEPTED)
-                measure_reading(PAYLOAD_READ, payload_crc, word, sizeof word, header, sizeof header);
+    for (uint32_t type = 0; type < TYPES; type++)
+        for (uint32_t count = 0; count < COUNTS; count++) {
+            measure_packets(type, count, payload, 0);
+            measure_packets(type, count, payload, OPL_PAYLOAD_BYTES);
+            measure_packets(type, count, payload, count * OPL_TS_PACKET_BYTES);
         }
-    }
 }
 
 /* The two blocks: the bytes of an infoword and the places of a lane. */
