@@ -9,6 +9,7 @@
  *   version TEXT               OPL_VERSION
  *   empty NUMBER               the refusal number of a call that is lent OPL_EMPTY
  *   form NUMBER NUMBER         a number of opl_form, and what opl_preamble_form says of bytes that are so
+ *   parity NUMBER NUMBER       OPL_PARITY_HOLDS, and what opl_payload_read reports of a word that was written
  *   refusal NUMBER TEXT        opl_refusal_text, of every number that a byte has
  *   codeword PATTERN BYTES     opl_codeword_bytes, where it is not 0
  *   sheet BYTES                opl_sheet_bytes, of each header
@@ -24,13 +25,16 @@
 #define EMPTY_AS(pointer) OPL_EMPTY
 #endif
 
-/* Lent to be read and lent to be written, handed over at once and kept before. */
+/* Lent to be read and lent to be written, handed over at once and kept before, once and twice in a call. */
 static void say_empty(void)
 {
     static const uint8_t *const none = OPL_EMPTY;
     static uint8_t word[OPL_PAYLOAD_WORD_BYTES];
-    printf("empty %d\n", opl_payload_write(0, 9, OPL_EMPTY, 0, word, sizeof word));
-    printf("empty %d\n", opl_payload_write(0, 9, none, 0, word, sizeof word));
+    static uint8_t null_packet[OPL_TS_PACKET_BYTES];
+    printf("empty %d\n", opl_payload_write(0, 9, 0, OPL_EMPTY, 0, OPL_EMPTY, 0, word, sizeof word));
+    printf("empty %d\n", opl_payload_write(0, 9, 0, none, 0, none, 0, word, sizeof word));
+    printf("empty %d\n",
+           opl_payload_write(2, 9, 0, OPL_EMPTY, 0, null_packet, sizeof null_packet, word, sizeof word));
     printf("empty %d\n", opl_signalling_write(OPL_EMPTY, 0, OPL_EMPTY, 0));
     printf("empty %d\n", opl_place(0, EMPTY_AS(const int8_t *), 0, EMPTY_AS(int16_t *), 0));
 }
@@ -51,6 +55,18 @@ static void say_forms(void)
     say_form(OPL_UPRIGHT, bytes);
     opl_preamble(1, bytes, sizeof bytes);
     say_form(OPL_INVERTED, bytes);
+}
+
+/* Of as many packets as a word carries. */
+static void say_parity(void)
+{
+    static uint8_t packets[OPL_TS_PAYLOAD_BYTES], null_packet[OPL_TS_PACKET_BYTES];
+    static uint8_t word[OPL_PAYLOAD_WORD_BYTES], header[OPL_PAYLOAD_HEADER_BYTES];
+    packets[0] = 1;
+    if (opl_payload_write(2, 9, OPL_TS_PACKETS, packets, sizeof packets, null_packet, sizeof null_packet, word,
+                          sizeof word) == OPL_ACCEPTED &&
+        opl_payload_read(word, sizeof word, header, sizeof header) == OPL_ACCEPTED)
+        printf("parity %d %d\n", OPL_PARITY_HOLDS, header[7]);
 }
 
 static void say_refusals(void)
@@ -97,6 +113,7 @@ int main(int words, char **word)
     printf("version %s\n", OPL_VERSION);
     say_empty();
     say_forms();
+    say_parity();
     say_refusals();
     say_all_codewords();
     say_sheets(headers);

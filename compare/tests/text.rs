@@ -7,6 +7,7 @@ use compare::fuzz::entries;
 use compare::inputs;
 use compare::opl;
 use compare::rng::Rng;
+use compare::second::payload;
 use compare::second::preamble::Form;
 use compare::second::signalling::{sheet_of, word_of};
 use program::{build, figure, file, made, run};
@@ -81,10 +82,24 @@ fn the_version_is_that_of_the_numbers() {
     assert!(lines("version").eq([&due[..]]));
 }
 
-/// As a dummy's payload it is accepted; elsewhere no length of zero is.
+/// As a dummy's payload and null packet it is accepted, and as the payload of no packets; elsewhere no length of zero
+/// is.
 #[test]
 fn an_empty_buffer_is_lent() {
-    assert!(lines("empty").eq(["0", "0", "1", "1"]));
+    assert!(lines("empty").eq(["0", "0", "0", "1", "1"]));
+}
+
+#[test]
+fn the_figures_of_packets_are_the_seconds() {
+    assert_eq!(figure("OPL_TS_PACKET_BYTES"), payload::TS_PACKET_BYTES);
+    assert_eq!(figure("OPL_TS_PACKETS"), payload::TS_PACKETS as usize);
+    assert_eq!(figure("OPL_TS_PAYLOAD_BYTES"), payload::TS_PAYLOAD_BYTES);
+    assert_eq!(figure("OPL_PARITY_HOLDS"), (1 << payload::PARTS) - 1);
+}
+
+#[test]
+fn all_parts_of_a_written_word_hold() {
+    assert!(lines("parity").eq(["15 15"]));
 }
 
 #[test]
