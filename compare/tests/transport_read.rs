@@ -226,6 +226,29 @@ fn one_changed_header_bit() {
     }
 }
 
+/// With some other RFU a changed bit of the type is not noticed as such: the CRC over 46 bits is then that over the last
+/// 18 with the type that it makes, 3, 0 or 6. The stream id plays no part in that.
+#[test]
+fn a_changed_type_bit_that_the_crc_does_not_show() {
+    let mut rng = Rng::new(345);
+    for (rfu, index, due) in [
+        (0x100, 12_270, Err(15)),
+        (0x620, 12_269, Ok([0, 0])),
+        (0x860, 12_268, Err(15)),
+    ] {
+        for id in 0..256 {
+            let mut word = inputs::transport_word(&mut rng);
+            inputs::set_payload_header(&mut word, rfu, id, 2, 0);
+            let header = both_read(&mut rng, &word, 16).expect("it is accepted");
+            assert_eq!(header[4..8], [id as u8, 2, 0, ALL]);
+            flip_bit(&mut word, index);
+            let found = both_read(&mut rng, &word, 16);
+            let type_and_parity = found.map(|header| [header[5], header[7]]);
+            assert_eq!(type_and_parity, due, "RFU {rfu:X}, id {id}");
+        }
+    }
+}
+
 /// With the CRC put right again, over the bits that the changed type asks for: types 6, 0 and 3, or Encap_Ver not 0.
 #[test]
 fn one_changed_header_bit_that_is_sealed() {
