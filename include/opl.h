@@ -66,7 +66,7 @@ extern "C" {
  * what a dynamic linker takes, some 3,000 bytes, when memcpy or memset is called for the first time.
  */
 #define OPL_ENCODE_STACK 24000
-#define OPL_OTHER_STACK 2000
+#define OPL_OTHER_STACK 3000
 
 /* The refusal numbers. Names such as Sig_Pipe_Ver are the standard's. */
 enum opl_refusal {
@@ -249,9 +249,15 @@ uint8_t opl_signalling_write(const uint8_t *sheet, size_t n, uint8_t *word, size
  * Encap_Ver, 3. Behind it stand its CRC-8, over the 18 bits of types 0 and 1 and the 46 bits of type 2, and six
  * spare bits of zero.
  *
- * The eight packets are four parts of two packets, 376 bytes each. The k-th 49 bits of Parity_Parts are the
- * parity of part k: the 48 bits of the remainder of x^48 m(x) by the BCH generator, where m(x) has the part's
- * 3,008 bits, and the sum of those and of the 48. The library detects errors by them, and corrects none.
+ * The eight packets are four parts of two packets, 376 bytes each, counted from 0. The 49 bits of Parity_Parts
+ * at bit 12,032 + 49k are the parity of part k: the 48 bits d47 .. d0 of the remainder of x^48 m(x) by the
+ * generator, and the parity bit p0, the sum modulo 2 of the part's 3,008 bits and of the 48. m(x) has the
+ * part's bits as its coefficients, the first bit that of x^3007, and the generator is
+ *
+ *   x^48 + x^44 + x^41 + x^37 + x^36 + x^34 + x^32 + x^29 + x^27 + x^26 + x^21 + x^17 + x^16 + x^13
+ *   + x^7 + x^5 + x^3 + x + 1
+ *
+ * The library says which parts hold, and corrects none.
  */
 
 /*
@@ -293,8 +299,11 @@ uint8_t opl_payload_write(uint32_t type, uint8_t id, uint32_t count, const uint8
  *                       generator and the parity bit both agree; of types 0 and 1 zero
  *              byte 8   eight bytes of zero, kept for what later stream types report
  *
- * What opl_payload_write has written is accepted, with all four parts holding. Where an odd number of the
- * 3,057 bits of a part is then changed, just that part does not hold.
+ * What opl_payload_write has written is accepted, of type 2 with all four parts holding. Where an odd number of
+ * the 3,057 bits of a part that holds is changed, and no other bit, just that part does not hold any more.
+ *
+ * One changed bit of an accepted word's header is refused with OPL_CRC, unless it is a bit of the stream type by
+ * which the type becomes 2 or is 2 no more: the CRC is then that of another number of bits.
  *
  * Refusals, in this order:
  *

@@ -14,8 +14,9 @@ use Rattle.ground.proofs.Choice.{choose-true, choose-false}
 use Rattle.ground.proofs.Refusing.{refusal-leaves, acceptance-leaves}
 use Rattle.infoword.specs.Suffix.{kindOf}
 use Rattle.infoword.specs.Word.{packetBytes}
-use Rattle.payload.specs.Answers.{readRefusal, headerOf, valuesOf, told, reading, shown, headerBytes, readInto}
-use Rattle.payload.specs.declared.Header.{Header}
+use Rattle.fields.specs.Report.{readRefusal, headerOf}
+use Rattle.payload.specs.Answers.{valuesOf, told, reading, shown, headerBytes, readInto}
+use Rattle.fields.specs.declared.Header.{Header}
 use Rattle.payload.specs.declared.Reading.{Reading}
 use Rattle.payload.specs.declared.Reading.the-variants.{Accepted, Refused}
 

@@ -23,9 +23,9 @@ use Rattle.parity.proofs.Which.{held-set, held-true, held-false}
 use Rattle.infoword.specs.Suffix.{kindOf, covered, coveredOf, headerCrc, rfuBits, rfuOf}
 use Rattle.infoword.proofs.Closing.{covered-2, covered-other, covered-run}
 use Rattle.infoword.proofs.Ending.{rfu-2}
-use Rattle.payload.specs.Answers.{readRefusal}
+use Rattle.fields.specs.Report.{readRefusal}
 use Rattle.payload.specs.Damage.{OneBit, OddIn}
-use Rattle.payload.proofs.Faults.{Readable, read-5}
+use Rattle.fields.proofs.Faults.{Readable, read-5}
 
 -- for any run of bits, and so for every stream type's: another bit at one place gives another CRC
 pub header-crc-changes : (h : List ℕ) (i b : ℕ) → Below 2 h → b < 2 → i < length h → headerCrc (set h i b) ≡ headerCrc h → b ≡ getD h i 0

@@ -20,10 +20,11 @@ use Rattle.parity.proofs.Sound.{meaning}
 use Rattle.parity.proofs.Received.{received-bits}
 use Rattle.parity.proofs.Which.{held-set, held-true}
 use Rattle.infoword.specs.Suffix.{idOf, kindOf, versionOf, rfuOf}
-use Rattle.payload.specs.Answers.{readFaults, readRefusal, parityOf, headerOf, headerBytes, readInto}
+use Rattle.fields.specs.Report.{readFaults, readRefusal, parityOf, headerOf}
+use Rattle.payload.specs.Answers.{headerBytes, readInto}
 use Rattle.payload.specs.Damage.{OneBit, OddIn, PartSeenIn}
-use Rattle.payload.specs.declared.Header.{Header}
-use Rattle.payload.proofs.Faults.{Readable, read-0, readable}
+use Rattle.fields.specs.declared.Header.{Header}
+use Rattle.fields.proofs.Faults.{Readable, read-0, readable}
 use Rattle.payload.proofs.Answers.{into-refused, into-done}
 use Rattle.payload.proofs.Damage.{damaged, same-behind, part-fails, others-stay, still-readable, same-rfu}
 

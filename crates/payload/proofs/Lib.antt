@@ -1,4 +1,3 @@
-pub mod Faults
 pub mod Answers
 pub mod Stores
 pub mod WaysBack

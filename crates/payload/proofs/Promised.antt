@@ -25,11 +25,12 @@ use Rattle.encapsulation.specs.Writing.{packetOf}
 use Rattle.encapsulation.proofs.write as write
 use Rattle.encapsulation.proofs.write.Kinds as write-kinds
 use Rattle.encapsulation.proofs.write.Reads as write-reads
-use Rattle.payload.specs.Answers.{readRefusal, parityOf, headerOf, writtenHeader, told, reading, shown, headerBytes}
+use Rattle.fields.specs.Report.{readRefusal, parityOf, headerOf}
+use Rattle.payload.specs.Answers.{writtenHeader, told, reading, shown, headerBytes}
 use Rattle.payload.specs.Damage.{OneBit, OddIn, PartSeen}
-use Rattle.payload.specs.declared.Header.{Header}
+use Rattle.fields.specs.declared.Header.{Header}
 use Rattle.payload.specs.declared.Reading.the-variants.{Accepted, Refused}
-use Rattle.payload.proofs.Faults.{Readable, read-0, readable}
+use Rattle.fields.proofs.Faults.{Readable, read-0, readable}
 use Rattle.payload.proofs.Answers.{tells-refusal, tells-header, header-told, shows, told-inj}
 use Rattle.payload.proofs.WaysBack.{header-told-after, header-after, shown-after, write-again}
 use Rattle.payload.proofs.Damage.{damaged, same-behind, part-fails, others-stay, still-readable, same-rfu}

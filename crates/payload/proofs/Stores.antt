@@ -10,7 +10,7 @@ use Rattle.bits.specs.Lists.{bits, pack}
 use Rattle.bits.proofs.Lists.{pack-length}
 use Rattle.bits.proofs.Numbers.{pack-32, pack-bits}
 use Rattle.payload.specs.Answers.{headerBytes}
-use Rattle.payload.specs.declared.Header.{Header}
+use Rattle.fields.specs.declared.Header.{Header}
 
 -- four bytes at a place end what stands before them
 put-at : (l l' a : List ℕ) (i : ℕ) → length a ≡ 4 → i ≤ length l → l' ≡ take i l ++ a ++ drop (i + 4) l → take (i + 4) l' ≡ take i l ++ a

@@ -25,9 +25,10 @@ use Rattle.encapsulation.specs.Writing.{packetOf, lentBytes, written}
 use Rattle.encapsulation.proofs.Faults.{Writable}
 use Rattle.encapsulation.proofs.Laid.{lent-2, lent-other}
 use Rattle.encapsulation.proofs.Answers.{writes, wrote, carried-length, packet-whole}
-use Rattle.payload.specs.Answers.{parityOf, headerOf, writtenHeader, told, reading, shown, headerBytes, readInto}
+use Rattle.fields.specs.Report.{parityOf, headerOf}
+use Rattle.payload.specs.Answers.{writtenHeader, told, reading, shown, headerBytes, readInto}
 use Rattle.payload.specs.declared.Reading.the-variants.{Accepted}
-use Rattle.payload.proofs.Faults.{Readable, read-0}
+use Rattle.fields.proofs.Faults.{Readable, read-0}
 use Rattle.payload.proofs.Answers.{tells-header, shows, into-done}
 
 -- a word that the writer writes, with a packet of its stream type's size

@@ -3,38 +3,17 @@
 use Prim.Native.Nat.{ℕ}
 use mathlib.Core.Bool.{not}
 use mathlib.Core.List.{List, [], _∷_, _++_}
-use lib.Dec.{eqb, ltb}
+use lib.Dec.{eqb}
 use lib.ListN.{length, take, replicate}
 use Rattle.ground.specs.Outcome.{Outcome, Told}
-use Rattle.ground.specs.Choice.{choose, Fault, refuse, firstOf, refusing}
+use Rattle.ground.specs.Choice.{choose, refuse, firstOf, refusing}
 use Rattle.bits.specs.Lists.{bits, pack}
-use Rattle.parity.specs.Part.{heldOf}
-use Rattle.infoword.specs.Suffix.{idOf, kindOf, versionOf, crcFieldOf, spareOf, rfuOf, coveredOf, headerCrc}
+use Rattle.infoword.specs.Suffix.{kindOf}
 use Rattle.infoword.specs.Word.{packetBytes}
-use Rattle.payload.specs.declared.Header.{Header}
+use Rattle.fields.specs.Report.{readFaults, readRefusal, headerOf}
+use Rattle.fields.specs.declared.Header.{Header}
 use Rattle.payload.specs.declared.Reading.{Reading}
 use Rattle.payload.specs.declared.Reading.the-variants.{Accepted, Refused}
-
--- "Payload read": 1 2 5 16 15
-abbrev pub readFaults : List ℕ → List Fault
-readFaults w =
-    refuse 1 (not (eqb (length w) 1536)) ∷
-    refuse 2 (not (eqb (spareOf w) 0)) ∷
-    refuse 5 (not (eqb (crcFieldOf w) (headerCrc (coveredOf w)))) ∷
-    refuse 16 (not (eqb (versionOf w) 0)) ∷
-    refuse 15 (ltb 2 (kindOf w)) ∷ []
-
-unfoldable pub readRefusal : List ℕ → ℕ
-readRefusal w = firstOf (readFaults w)
-
--- which parts of a word hold: the four of type 2; types 0 and 1 have none
-unfoldable pub parityOf : List ℕ → ℕ
-parityOf w = choose (eqb (kindOf w) 2) (heldOf w) 0
-
--- what is reported of a word: RFU, STS_ID, STS_Stream_Type_ID and Encap_Ver as they stand, and which parts hold. First_Header_Address is
--- for a later stream type, and 0 in types 0, 1 and 2
-unfoldable pub headerOf : List ℕ → Header
-headerOf w = record { rfu = rfuOf w; id = idOf w; kind = kindOf w; version = versionOf w; parity = parityOf w; address = 0 }
 
 -- what is reported of a word that was written with a stream type and a stream id: of type 2 all four parts hold
 abbrev pub writtenHeader : ℕ → ℕ → Header

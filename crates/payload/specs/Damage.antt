@@ -8,7 +8,7 @@ use Rattle.bits.specs.Places.{bitAt}
 use Rattle.parity.specs.Part.{received}
 use Rattle.parity.specs.Claims.{distance}
 use Rattle.infoword.specs.Suffix.{kindOf, covered}
-use Rattle.payload.specs.declared.Header.{Header}
+use Rattle.fields.specs.declared.Header.{Header}
 use Rattle.payload.specs.declared.Reading.{Reading}
 use Rattle.payload.specs.declared.Reading.the-variants.{Accepted}
 

@@ -1,6 +1,5 @@
 // Payload words of stream types 0, 1 and 2 (clauses 4.3.1 to 4.3.3), read.
-mod fields;
-
+use fields::Header;
 use ground::LENGTH_WRONG;
 use infoword::STREAM_TYPE;
 use wide::Wide;
@@ -11,17 +10,6 @@ ghost use lib.ListN.{length, take, drop};
 ghost use Rattle.ground.specs.Outcome.{Is};
 ghost use Rattle.bits.specs.Lists.{bits, pack, Below};
 ghost use Rattle.payload.specs.Answers.{told, reading, shown, headerBytes, readInto};
-
-// What is reported of a word that is accepted: the fields of its header as they stand, which of its parity parts hold (bit k for part
-// k), and First_Header_Address, which is 0 for the stream types that have none.
-pub struct Header {
-    pub rfu: u32,
-    pub id: u8,
-    pub kind: u8,
-    pub version: u8,
-    pub parity: u8,
-    pub address: u16,
-}
 
 // What reading a word gives: this, or the number of its refusal.
 pub enum Reading {

@@ -3,8 +3,7 @@ use Prim.Native.Nat.{ℕ, _^_}
 use mathlib.Core.Path.{sym, ap, _∙_, subst}
 use mathlib.Core.List.{List, _++_}
 use native.Mathlib.Omega.{arith}
-use borrow.Rule.Slice.PartMut.{mid-len}
-use lib.ListN.{length}
+use lib.ListN.{length, length-take, length-drop}
 use Rattle.bits.specs.Lists.{bits, pack, Below}
 use Rattle.infoword.specs.Word.{fields49}
 use Rattle.infoword.proofs.Fields49.{parts-are, parted-by, parted-none}
@@ -40,7 +39,7 @@ put-requires c κs =
     let w = o .before .before .args .word .now in
     let e = p .parts .ensures in
     let a = parts-are w in (
-      mid-len 1504 1532 w (omega (arith, o .if1 .left)),
+      rw (length-take, length-drop) (omega (arith, o .if1 .left)),
       ap length e ∙ a .0,
       subst (λ (l : List ℕ). Below (2 ^ 49) l) (sym e) (a .1),
     )

@@ -3,8 +3,8 @@ use mathlib.Core.Path.{_≡_, sym, ap, _∙_}
 use native.Mathlib.Omega.{arith}
 use lib.Seq.{length-take-le}
 use Rattle.infoword.specs.Word.{packetBytes}
-use Rattle.payload.specs.Answers.{readRefusal}
-use Rattle.payload.proofs.Faults.{readable}
+use Rattle.fields.specs.Report.{readRefusal}
+use Rattle.fields.proofs.Faults.{readable}
 use Rattle.payload.proofs.Answers.{shows, shows-nothing}
 use borrow.Author.Needs.{needs}
 use Rattle.payload.proofs.payload_of.Statement.{statement}
@@ -12,8 +12,8 @@ use Rattle.payload.proofs.payload_of.Tie as tie
 use Rattle.payload.proofs.payload_of.Reads as reads
 use Rattle.payload.proofs.payload_of.Lts as lts
 use Rattle.bits.proofs.field.Reads as field-reads
-use Rattle.payload.proofs.fields.bytes.Reads as bytes-reads
-use Rattle.payload.proofs.fields.refusal.Reads as refusal-reads
+use Rattle.fields.proofs.bytes.Reads as bytes-reads
+use Rattle.fields.proofs.refusal.Reads as refusal-reads
 
 refusal-requires : tie.Need-refusal-requires
 refusal-requires c κs = search needs

@@ -9,8 +9,8 @@ use Rattle.payload.proofs.read.Statement.{statement}
 use Rattle.payload.proofs.read.Tie as tie
 use Rattle.payload.proofs.read.Reads as reads
 use Rattle.payload.proofs.read.Lts as lts
-use Rattle.payload.proofs.fields.header_of.Reads as header-of-reads
-use Rattle.payload.proofs.fields.refusal.Reads as refusal-reads
+use Rattle.fields.proofs.header_of.Reads as header-of-reads
+use Rattle.fields.proofs.refusal.Reads as refusal-reads
 
 -- what is lent is bytes
 bytes : (c : tie.After-shared-slice-known) → Below 256 (c .before .args .word .now)

@@ -8,7 +8,7 @@ use borrow.Author.Tests.{eq-eqb, ne-eqb, lt-ltb, le-ltb, ltb-false}
 use lib.ListN.{length}
 use Rattle.ground.proofs.Choice.{no-difference, all-clear}
 use Rattle.infoword.specs.Suffix.{kindOf, versionOf, crcFieldOf, spareOf, coveredOf, headerCrc}
-use Rattle.payload.specs.Answers.{readFaults, readRefusal}
+use Rattle.fields.specs.Report.{readFaults, readRefusal}
 
 -- what the reader asks
 pub record Readable (w : List ℕ) : Type 0 where

@@ -1,13 +1,13 @@
--- `payload::fields::field` meets its contract: the field fits a byte. Assumes nothing.
+-- `fields::field` meets its contract: the field fits a byte. Assumes nothing.
 use Prim.Native.Nat.{_^_, _≤_}
 use native.Mathlib.Omega.{arith}
 use lib.Pow.{pow-mono}
 use Rattle.bits.proofs.Places.{field-lt}
 use borrow.Author.Needs.{needs}
-use Rattle.payload.proofs.fields.field.Statement.{statement}
-use Rattle.payload.proofs.fields.field.Tie as tie
-use Rattle.payload.proofs.fields.field.Reads as reads
-use Rattle.payload.proofs.fields.field.Lts as lts
+use Rattle.fields.proofs.field.Statement.{statement}
+use Rattle.fields.proofs.field.Tie as tie
+use Rattle.fields.proofs.field.Reads as reads
+use Rattle.fields.proofs.field.Lts as lts
 use Rattle.bits.proofs.field.Reads as field-reads
 
 field-requires : tie.Need-field-requires

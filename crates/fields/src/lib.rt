@@ -1,5 +1,4 @@
-// The fields of a payload word's header, and what is refused of them.
-use crate::Header;
+// The fields of a payload word's header (clause 4.3), and what is refused of them.
 use ground::CRC_WRONG;
 use ground::ENCAP_NOT_0;
 use ground::LENGTH_WRONG;
@@ -16,7 +15,18 @@ ghost use Prim.Native.Nat.{_≤_};
 ghost use Rattle.bits.specs.Places.{fieldAt};
 ghost use Rattle.infoword.specs.Suffix.{kindOf, rfuOf};
 ghost use Rattle.infoword.specs.Word.{packetBytes};
-ghost use Rattle.payload.specs.Answers.{readRefusal, parityOf, headerOf};
+ghost use Rattle.fields.specs.Report.{readRefusal, parityOf, headerOf};
+
+// What is reported of a word that is accepted: the fields of its header as they stand, which of its parity parts hold (bit k for part
+// k), and First_Header_Address, which is 0 for the stream types that have none.
+pub struct Header {
+    pub rfu: u32,
+    pub id: u8,
+    pub kind: u8,
+    pub version: u8,
+    pub parity: u8,
+    pub address: u16,
+}
 
 // Where the header's other fields stand (tables 2 to 4), in bits.
 const STREAM_ID: usize = 12260;

@@ -1,16 +1,16 @@
--- `payload::fields::refusal` meets its contract. Assumes nothing.
+-- `fields::refusal` meets its contract. Assumes nothing.
 use mathlib.Core.Path.{_≡_, sym, _∙_}
 use native.Mathlib.Omega.{arith}
 use lib.ListN.{length}
 use Rattle.infoword.specs.Suffix.{crcFieldOf, spareOf, coveredOf, headerCrc}
-use Rattle.payload.proofs.Faults.{read-1, read-2, read-5, read-16, read-15, read-0}
+use Rattle.fields.proofs.Faults.{read-1, read-2, read-5, read-16, read-15, read-0}
 use borrow.Author.Needs.{needs}
-use Rattle.payload.proofs.fields.refusal.Statement.{statement}
-use Rattle.payload.proofs.fields.refusal.Tie as tie
-use Rattle.payload.proofs.fields.refusal.Reads as reads
-use Rattle.payload.proofs.fields.refusal.Lts as lts
+use Rattle.fields.proofs.refusal.Statement.{statement}
+use Rattle.fields.proofs.refusal.Tie as tie
+use Rattle.fields.proofs.refusal.Reads as reads
+use Rattle.fields.proofs.refusal.Lts as lts
 use Rattle.infoword.proofs.crc.Reads as crc-reads
-use Rattle.payload.proofs.fields.field.Reads as field-reads
+use Rattle.fields.proofs.field.Reads as field-reads
 
 returns : tie.Need-returns
 returns c = read-1 (c .before .before .args .word .now) (c .if1 .taken)

@@ -1,14 +1,14 @@
--- `payload::fields::bytes` meets its contract. Assumes nothing.
+-- `fields::bytes` meets its contract. Assumes nothing.
 use native.Mathlib.Omega.{arith}
 use mathlib.Core.Path.{sym, _∙_}
 use borrow.Author.Tests.{eq-eqb, ne-eqb}
 use lib.Dec.{eqb}
 use Rattle.ground.specs.Choice.{choose}
 use Rattle.ground.proofs.Choice.{choose-true, choose-false}
-use Rattle.payload.proofs.fields.bytes.Statement.{statement}
-use Rattle.payload.proofs.fields.bytes.Tie as tie
-use Rattle.payload.proofs.fields.bytes.Reads as reads
-use Rattle.payload.proofs.fields.bytes.Lts as lts
+use Rattle.fields.proofs.bytes.Statement.{statement}
+use Rattle.fields.proofs.bytes.Tie as tie
+use Rattle.fields.proofs.bytes.Reads as reads
+use Rattle.fields.proofs.bytes.Lts as lts
 
 returns : tie.Need-returns
 returns c =

@@ -1,18 +1,18 @@
--- `payload::fields::header_of` meets its contract. Assumes nothing.
+-- `fields::header_of` meets its contract. Assumes nothing.
 use mathlib.Core.Path.{_≡_}
 use native.Mathlib.Omega.{arith}
 use Rattle.bits.proofs.Places.{field-lt}
 use Rattle.infoword.specs.Suffix.{idOf, kindOf, versionOf, rfuOf}
-use Rattle.payload.specs.Answers.{parityOf, headerOf}
+use Rattle.fields.specs.Report.{parityOf, headerOf}
 use borrow.Author.Needs.{needs}
-use Rattle.payload.proofs.fields.header_of.Statement.{statement}
-use Rattle.payload.proofs.fields.header_of.Tie as tie
-use Rattle.payload.proofs.fields.header_of.Reads as reads
-use Rattle.payload.proofs.fields.header_of.Lts as lts
+use Rattle.fields.proofs.header_of.Statement.{statement}
+use Rattle.fields.proofs.header_of.Tie as tie
+use Rattle.fields.proofs.header_of.Reads as reads
+use Rattle.fields.proofs.header_of.Lts as lts
 use Rattle.bits.proofs.field.Reads as field-reads
-use Rattle.payload.proofs.fields.field.Reads as fields-field-reads
-use Rattle.payload.proofs.fields.parity_of.Reads as parity-of-reads
-use Rattle.payload.proofs.fields.rfu_of.Reads as rfu-of-reads
+use Rattle.fields.proofs.field.Reads as fields-field-reads
+use Rattle.fields.proofs.parity_of.Reads as parity-of-reads
+use Rattle.fields.proofs.rfu_of.Reads as rfu-of-reads
 
 field-requires : tie.Need-field-requires
 field-requires c κs = search needs

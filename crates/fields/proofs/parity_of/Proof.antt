@@ -1,15 +1,15 @@
--- `payload::fields::parity_of` meets its contract. Assumes nothing.
+-- `fields::parity_of` meets its contract. Assumes nothing.
 use mathlib.Core.Path.{sym, _∙_}
 use borrow.Author.Tests.{eq-eqb, ne-eqb}
 use Rattle.ground.proofs.Choice.{choose-true, choose-false}
 use Rattle.parity.specs.Part.{heldOf}
 use Rattle.infoword.specs.Suffix.{kindOf}
-use Rattle.payload.specs.Answers.{parityOf}
+use Rattle.fields.specs.Report.{parityOf}
 use borrow.Author.Needs.{needs}
-use Rattle.payload.proofs.fields.parity_of.Statement.{statement}
-use Rattle.payload.proofs.fields.parity_of.Tie as tie
-use Rattle.payload.proofs.fields.parity_of.Reads as reads
-use Rattle.payload.proofs.fields.parity_of.Lts as lts
+use Rattle.fields.proofs.parity_of.Statement.{statement}
+use Rattle.fields.proofs.parity_of.Tie as tie
+use Rattle.fields.proofs.parity_of.Reads as reads
+use Rattle.fields.proofs.parity_of.Lts as lts
 use Rattle.parity.proofs.held.Reads as held-reads
 
 held-requires : tie.Need-held-requires
