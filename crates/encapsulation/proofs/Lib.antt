@@ -2,4 +2,5 @@ pub mod Faults
 pub mod Stores
 pub mod Laid
 pub mod Answers
+pub mod Plain
 pub mod Agree

@@ -1,19 +1,25 @@
 -- The way back of payload words, and what is read of a damaged one, of the exported functions' own promises.
 -- Assumes nothing.
-use Prim.Native.Nat.{ℕ, _/_, _%_, _^_, _<_}
-use mathlib.Core.Path.{_≡_}
+use Prim.Native.Nat.{ℕ, _/_, _%_, _^_, _≤_, _<_}
+use mathlib.Core.Bool.{not}
+use mathlib.Core.Path.{_≡_, subst}
 use mathlib.Core.Logic.{_↔_}
-use mathlib.Core.List.{List}
+use mathlib.Core.List.{List, [], _∷_}
 use contract.Lifetimes.{Lfts}
 use borrow.Fn.World.{ArgsD, ResD}
 use borrow.Fn.Kinds.{endedOf}
 use denote.Ref.{now}
 use denote.Triple.Clauses.{AtExit}
+use lib.Dec.{eqb}
 use lib.ListN.{length, getD, take}
+use Rattle.ground.specs.Outcome.{Outcome, Is}
+use Rattle.ground.specs.Choice.{choose, refuse, firstOf, refusing}
 use Rattle.parity.specs.Part.{received}
 use Rattle.parity.specs.Claims.{Sound}
 use Rattle.infoword.specs.Word.{packetBytes}
 use Rattle.encapsulation.specs.Writing.{packetOf}
+use Rattle.encapsulation.specs.Claims.{plainWord}
+use Rattle.encapsulation.proofs.Plain.{types-0-and-1}
 use Rattle.payload.specs.Answers.{writtenHeader, headerBytes}
 use Rattle.payload.specs.Damage.{OneBit, OddIn, PartSeenIn}
 use Rattle.payload.proofs.WaysBack.{header-after, packet-after}
@@ -43,6 +49,15 @@ module _ (κs : Lfts 3) (a : ArgsD opl-payload-write.signature κs) (r : ResD op
   -- and the word begins with the payload, for type 2 with the null packets behind it
   pub opl-payload-kept : take (packetBytes (a .0)) left ≡ packetOf (a .0) (a .1 .1 .0) (now (a .1 .1 .1 .0)) (now (a .1 .1 .1 .1 .0))
   opl-payload-kept = packet-after (a .0) (a .1 .0) (a .1 .1 .0) (now (a .1 .1 .1 .0)) (now (a .1 .1 .1 .1 .0)) (now (a .1 .1 .1 .1 .1 .0)) r left (did .0) zero (did .1)
+
+-- after any call of opl_payload_write with type 0 or 1, whatever the packet count and the null packet: what tables 2 and 3 say, and nothing of type 2
+pub opl-types-0-and-1 : (κs : Lfts 3) (a : ArgsD opl-payload-write.signature κs) (r : ResD opl-payload-write.signature κs)
+    (s : AtExit (endedOf 3 opl-payload-write-kinds.ps opl-payload-write-kinds.r) κs) → opl-payload-write-reads.Post κs a r s → a .0 ≤ 1
+    → Is (refusing (firstOf (refuse 1 (not (eqb (length (now (a .1 .1 .1 .0))) (choose (eqb (a .0) 1) 1532 0))) ∷ refuse 1 (not (eqb (length (now (a .1 .1 .1 .1 .1 .0))) 1536)) ∷ []))
+    (plainWord (a .0) (a .1 .0) (now (a .1 .1 .1 .0))) (now (a .1 .1 .1 .1 .1 .0))) r (now (s .1 .1 .1 .1 .1 .0))
+opl-types-0-and-1 κs a r s did h =
+    subst (λ (o : Outcome ℕ (List ℕ)). Is o r (now (s .1 .1 .1 .1 .1 .0)))
+    (types-0-and-1 (a .0) (a .1 .0) (a .1 .1 .0) (now (a .1 .1 .1 .0)) (now (a .1 .1 .1 .1 .0)) (now (a .1 .1 .1 .1 .1 .0)) h) (did .0)
 
 -- after a call opl_payload_read(word, header) that answered 0, and another call of it with 16 bytes
 module _ (κs : Lfts 2) (a : ArgsD opl-payload-read.signature κs) (r : ResD opl-payload-read.signature κs)

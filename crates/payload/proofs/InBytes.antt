@@ -6,7 +6,7 @@ use mathlib.Core.Logic.{_↔_}
 use mathlib.Core.Bool.{not}
 use mathlib.Core.List.{List, _∷_}
 use native.Mathlib.Omega.{arith}
-use borrow.Author.Tests.{eq-eqb, ne-eqb}
+use borrow.Author.Tests.{eq-eqb}
 use lib.Dec.{eqb}
 use lib.ListN.{length, getD, take, drop}
 use Rattle.ground.specs.Outcome.{Is}
@@ -19,7 +19,7 @@ use Rattle.parity.specs.Claims.{Sound}
 use Rattle.parity.proofs.Sound.{meaning}
 use Rattle.parity.proofs.Received.{received-bits}
 use Rattle.parity.proofs.Which.{held-set, held-true}
-use Rattle.infoword.specs.Suffix.{idOf, kindOf, versionOf, rfuOf}
+use Rattle.infoword.specs.Suffix.{kindOf}
 use Rattle.fields.specs.Report.{readFaults, readRefusal, parityOf, headerOf}
 use Rattle.payload.specs.Answers.{headerBytes, readInto}
 use Rattle.payload.specs.Damage.{OneBit, OddIn, PartSeenIn}
