@@ -23,10 +23,10 @@ unfoldable pub readRefusal : List ℕ → ℕ
 readRefusal w = firstOf (readFaults w)
 
 -- which parts of a word hold: the four of type 2; types 0 and 1 have none
-unfoldable pub parityOf : List ℕ → ℕ
-parityOf w = choose (eqb (kindOf w) 2) (heldOf w) 0
+unfoldable pub holdingOf : List ℕ → ℕ
+holdingOf w = choose (eqb (kindOf w) 2) (heldOf w) 0
 
 -- what is reported of a word: RFU, STS_ID, STS_Stream_Type_ID and Encap_Ver as they stand, and which parts hold. First_Header_Address is
 -- for a later stream type, and 0 in types 0, 1 and 2
 unfoldable pub headerOf : List ℕ → Header
-headerOf w = record { rfu = rfuOf w; id = idOf w; kind = kindOf w; version = versionOf w; parity = parityOf w; address = 0 }
+headerOf w = record { rfu = rfuOf w; id = idOf w; kind = kindOf w; version = versionOf w; parity = holdingOf w; address = 0 }

@@ -15,7 +15,7 @@ ghost use Prim.Native.Nat.{_≤_};
 ghost use Rattle.bits.specs.Places.{fieldAt};
 ghost use Rattle.infoword.specs.Suffix.{kindOf, rfuOf};
 ghost use Rattle.infoword.specs.Word.{packetBytes};
-ghost use Rattle.fields.specs.Report.{readRefusal, parityOf, headerOf};
+ghost use Rattle.fields.specs.Report.{readRefusal, holdingOf, headerOf};
 
 // What is reported of a word that is accepted: the fields of its header as they stand, which of its parity parts hold (bit k for part
 // k), and First_Header_Address, which is 0 for the stream types that have none.
@@ -86,7 +86,7 @@ fn rfu_of(word: &[u8], kind: u32) -> u32
 // Which parity parts hold, by stream type: type 2 has four, any other none.
 fn parity_of(word: &[u8], kind: u32) -> u8
     requires { ⌜ kind ≡ kindOf (now word) ⌝ }
-    ensures { λ r. ⌜ r ≡ parityOf (now (word .entry)) ⌝ }
+    ensures { λ r. ⌜ r ≡ holdingOf (now (word .entry)) ⌝ }
 {
     if kind == TRANSPORT_STREAM {
         return parity::held(word);

@@ -20,7 +20,7 @@ use Rattle.parity.proofs.Sound.{meaning}
 use Rattle.parity.proofs.Received.{received-bits}
 use Rattle.parity.proofs.Which.{held-set, held-true}
 use Rattle.infoword.specs.Suffix.{kindOf}
-use Rattle.fields.specs.Report.{readFaults, readRefusal, parityOf, headerOf}
+use Rattle.fields.specs.Report.{readFaults, readRefusal, holdingOf, headerOf}
 use Rattle.payload.specs.Answers.{headerBytes, readInto}
 use Rattle.payload.specs.Damage.{OneBit, OddIn, PartSeenIn}
 use Rattle.fields.specs.declared.Header.{Header}
@@ -71,7 +71,7 @@ module _ (w out : List ℕ) (n : ℕ) (m : List ℕ) (o : Is (readInto w out) n 
     of-2 = sym kind-left ∙ two
 
     parity-left : getD m 7 0 ≡ heldOf w
-    unfolding headerOf parityOf
+    unfolding headerOf holdingOf
     parity-left = ap (λ (l : List ℕ). getD l 7 0) header-left ∙ parity-byte (headerOf w) ∙ choose-true (heldOf w) 0 (eq-eqb (kindOf w) 2 of-2)
 
     -- bit k of byte 7 is set exactly where generator and parity bit of part k both agree
@@ -90,7 +90,7 @@ module _ (w out : List ℕ) (n : ℕ) (m : List ℕ) (o : Is (readInto w out) n 
       read-v = agree q (into-done v out' l (read-0 v (still-readable w v k d (accepted .1) of-2)) (headerBytes (headerOf v)) refl)
 
       parity-v : getD m' 7 0 ≡ heldOf v
-      unfolding headerOf parityOf
+      unfolding headerOf holdingOf
       parity-v = ap (λ (x : List ℕ). getD x 7 0) (read-v .1) ∙ parity-byte (headerOf v) ∙ choose-true (heldOf v) 0 (eq-eqb (kindOf v) 2 (kind-v ∙ of-2))
 
       pub into-part-seen : PartSeenIn m r m' k

@@ -25,7 +25,7 @@ use Rattle.encapsulation.specs.Writing.{packetOf}
 use Rattle.encapsulation.proofs.write as write
 use Rattle.encapsulation.proofs.write.Kinds as write-kinds
 use Rattle.encapsulation.proofs.write.Reads as write-reads
-use Rattle.fields.specs.Report.{readRefusal, parityOf, headerOf}
+use Rattle.fields.specs.Report.{readRefusal, holdingOf, headerOf}
 use Rattle.payload.specs.Answers.{writtenHeader, told, reading, shown, headerBytes}
 use Rattle.payload.specs.Damage.{OneBit, OddIn, PartSeen}
 use Rattle.fields.specs.declared.Header.{Header}
@@ -102,7 +102,7 @@ module _ (κs : Lfts 1) (a : ArgsD read.signature κs) (r : ResD read.signature 
       → length (now (c .1 .1 .1 .1 .1 .0)) ≡ 1536 → write-reads.Post κu c n u
       → (n ≡ 0) × (drop 1532 (now (u .1 .1 .1 .1 .1 .0)) ≡ drop 1532 word) × (c .0 ≡ 1 → now (u .1 .1 .1 .1 .1 .0) ≡ word)
       × (c .0 ≡ 2 → h .parity ≡ 15 → now (u .1 .1 .1 .1 .1 .0) ≡ word)
-  unfolding headerOf parityOf
+  unfolding headerOf holdingOf
   write-after-read z κt b q t κu c n u same showed ek ei ec ep one len did =
       let f : h ≡ headerOf word = facts .1 in
       let g = write-again word (readable word (sym (facts .0))) (saw .1) (sym (ap (λ (x : Header). x .rfu) f) ∙ z)
@@ -122,7 +122,7 @@ module _ (κs : Lfts 1) (a : ArgsD read.signature κs) (r : ResD read.signature 
     of-2 = sym kind-is ∙ two
 
     parity-is : h .parity ≡ heldOf word
-    unfolding headerOf parityOf
+    unfolding headerOf holdingOf
     parity-is = ap (λ (x : Header). x .parity) (facts .1) ∙ choose-true (heldOf word) 0 (eq-eqb (kindOf word) 2 of-2)
 
     -- part k is reported as holding exactly where generator and parity bit both agree
@@ -141,12 +141,12 @@ module _ (κs : Lfts 1) (a : ArgsD read.signature κs) (r : ResD read.signature 
     -- reported as not holding
     pub part-seen : (κt : Lfts 1) (b : ArgsD read.signature κt) (q : ResD read.signature κt) (t : AtExit (endedOf 1 read-kinds.ps read-kinds.r) κt) (k : ℕ)
         → h .parity / 2 ^ k % 2 ≡ 1 → OddIn word (now (b .0)) k → read-reads.Post κt b q t → PartSeen h q k
-    unfolding headerOf parityOf
+    unfolding headerOf holdingOf
     part-seen κt b q t k set d p =
         let v : List ℕ = now (b .0) in
         let sound : Readable v = still-readable word v k d (readable word (sym (facts .0))) of-2 in
         let kind-v : kindOf v ≡ kindOf word = same-behind word v k d 12268 3 (omega arith) (omega arith) in
-        let held-v : parityOf v ≡ heldOf v = choose-true (heldOf v) 0 (eq-eqb (kindOf v) 2 (kind-v ∙ of-2)) in
+        let held-v : holdingOf v ≡ heldOf v = choose-true (heldOf v) 0 (eq-eqb (kindOf v) 2 (kind-v ∙ of-2)) in
         record {
           now = headerOf v;
           read = told-inj q (Accepted (headerOf v)) (p .0 ∙ sym (tells-header v (headerOf v) (read-0 v sound) refl));

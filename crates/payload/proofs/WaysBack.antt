@@ -25,7 +25,7 @@ use Rattle.encapsulation.specs.Writing.{packetOf, lentBytes, written}
 use Rattle.encapsulation.proofs.Faults.{Writable}
 use Rattle.encapsulation.proofs.Laid.{lent-2, lent-other}
 use Rattle.encapsulation.proofs.Answers.{writes, wrote, carried-length, packet-whole}
-use Rattle.fields.specs.Report.{parityOf, headerOf}
+use Rattle.fields.specs.Report.{holdingOf, headerOf}
 use Rattle.payload.specs.Answers.{writtenHeader, told, reading, shown, headerBytes, readInto}
 use Rattle.payload.specs.declared.Reading.the-variants.{Accepted}
 use Rattle.fields.proofs.Faults.{Readable, read-0}
@@ -50,8 +50,8 @@ module _ (kind id : ℕ) (p : List ℕ) (k : kind ≤ 2) (i : id < 256) (n : len
   }
 
   -- all four parts of type 2 hold
-  parity-back : parityOf (wordOf kind id p) ≡ choose (eqb kind 2) 15 0
-  unfolding parityOf
+  parity-back : holdingOf (wordOf kind id p) ≡ choose (eqb kind 2) 15 0
+  unfolding holdingOf
   parity-back =
       ap (λ (x : ℕ). choose (eqb x 2) (heldOf (wordOf kind id p)) 0) kind-is
       ∙ elim (ℕ-discrete kind 2) [

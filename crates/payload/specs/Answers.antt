@@ -19,7 +19,7 @@ use Rattle.payload.specs.declared.Reading.the-variants.{Accepted, Refuse
 abbrev pub writtenHeader : ℕ → ℕ → Header
 writtenHeader kind id = record { rfu = 0; id = id; kind = kind; version = 0; parity = choose (eqb kind 2) 15 0; address = 0 }
 
--- the values of a header, in that order
+-- the values of a header, in the order of its fields
 abbrev pub valuesOf : Header → List ℕ
 valuesOf h = h .rfu ∷ h .id ∷ h .kind ∷ h .version ∷ h .parity ∷ h .address ∷ []
 

@@ -3,7 +3,7 @@ use mathlib.Core.Path.{_≡_}
 use native.Mathlib.Omega.{arith}
 use Rattle.bits.proofs.Places.{field-lt}
 use Rattle.infoword.specs.Suffix.{idOf, kindOf, versionOf, rfuOf}
-use Rattle.fields.specs.Report.{parityOf, headerOf}
+use Rattle.fields.specs.Report.{holdingOf, headerOf}
 use borrow.Author.Needs.{needs}
 use Rattle.fields.proofs.header_of.Statement.{statement}
 use Rattle.fields.proofs.header_of.Tie as tie
@@ -43,7 +43,7 @@ returns c =
     let b : c .before .before .field2 .result ≡ idOf w = c .before .before .field2 .ensures in
     let d : k .field .result ≡ kindOf w = k .field .ensures in
     let e : c .before .field3 .result ≡ versionOf w = c .before .field3 .ensures in
-    let f : c .parity-of .result ≡ parityOf w = c .parity-of .ensures in
+    let f : c .parity-of .result ≡ holdingOf w = c .parity-of .ensures in
     cc (a, b, d, e, f)
 
 pub header-of-spec : {M : Type 1} → statement M

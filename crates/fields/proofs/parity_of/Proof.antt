@@ -4,7 +4,7 @@ use borrow.Author.Tests.{eq-eqb, ne-eqb}
 use Rattle.ground.proofs.Choice.{choose-true, choose-false}
 use Rattle.parity.specs.Part.{heldOf}
 use Rattle.infoword.specs.Suffix.{kindOf}
-use Rattle.fields.specs.Report.{parityOf}
+use Rattle.fields.specs.Report.{holdingOf}
 use borrow.Author.Needs.{needs}
 use Rattle.fields.proofs.parity_of.Statement.{statement}
 use Rattle.fields.proofs.parity_of.Tie as tie
@@ -16,14 +16,14 @@ held-requires : tie.Need-held-requires
 held-requires c κs = search needs
 
 returns : tie.Need-returns
-unfolding parityOf
+unfolding holdingOf
 returns c =
     let s = c .before .before .before in
     let w = s .args .word .now in
     c .held .ensures ∙ sym (choose-true (heldOf w) 0 (eq-eqb (kindOf w) 2 (sym (s .pre) ∙ c .before .if1 .taken)))
 
 returns-2 : tie.Need-returns-2
-unfolding parityOf
+unfolding holdingOf
 returns-2 c =
     let s = c .before .before in
     let w = s .args .word .now in
