@@ -302,8 +302,9 @@ uint8_t opl_payload_write(uint32_t type, uint8_t id, uint32_t count, const uint8
  * What opl_payload_write has written is accepted, of type 2 with all four parts holding. Where an odd number of
  * the 3,057 bits of a part that holds is changed, and no other bit, just that part does not hold any more.
  *
- * One changed bit of an accepted word's header is refused with OPL_CRC, unless it is a bit of the stream type by
- * which the type becomes 2 or is 2 no more: the CRC is then that of another number of bits.
+ * One changed bit of the header of a word that opl_payload_write has written is refused with OPL_CRC. So it is of
+ * any other accepted word, unless the bit is one of the stream type by which the type becomes 2 or is 2 no more:
+ * the CRC is then that of another number of bits, and with an RFU that is not 0 it can be right.
  *
  * Refusals, in this order:
  *

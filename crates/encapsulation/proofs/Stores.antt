@@ -4,37 +4,13 @@ use Prim.Native.Nat.{ℕ, zero, suc, _+_, _-_, _*_, _≤_, _<_}
 use mathlib.Core.Path.{_≡_, refl, sym, ap, ap₂, _∙_}
 use mathlib.Core.List.{List, _++_, append-nil, append-assoc}
 use native.Mathlib.Omega.{arith}
-use native.Mathlib.Decide.{decLt}
-use lib.ListN.{length, getD, take, drop, replicate, take-append-drop, length-append, length-drop, length-replicate, getD-replicate, List·getD-append, List·getD-eq-default}
-use lib.Seq.{take-all, getD-append-add, paste, length-take-le}
+use lib.ListN.{length, take, drop, take-append-drop, length-append, length-drop}
+use lib.Seq.{take-all, paste, length-take-le}
 use Rattle.ground.proofs.Copy.{over, paste-behind}
 use Rattle.infoword.specs.Word.{filled}
 use Rattle.infoword.proofs.Written.{filled-length}
 use Rattle.encapsulation.specs.Writing.{repeated}
 use Rattle.encapsulation.specs.Steps.{filledUp}
-
--- behind the payload stand zeros
-pub filled-at : (n : ℕ) (p : List ℕ) (i : ℕ) → getD (filled n p) i 0 ≡ getD p i 0
-unfolding filled
-filled-at n p i =
-    elim (decLt i (length p)) [
-      | yes h ↦ List·getD-append p (replicate (n - length p) 0) 0 i h
-      | no h ↦ behind (omega arith)
-    ]
-  where
-    zeros : (n k : ℕ) → _≡_ {A = ℕ} (getD (replicate n 0) k 0) 0
-    zeros n k =
-        elim (decLt k n) [
-          | yes l ↦ getD-replicate n k 0 0 l
-          | no l ↦ (let e : length (replicate {A = ℕ} n 0) ≤ k = rw (length-replicate {A = ℕ}) (omega arith) in List·getD-eq-default (replicate n 0) 0 e)
-        ]
-
-    behind : length p ≤ i → getD (p ++ replicate (n - length p) 0) i 0 ≡ getD p i 0
-    behind h =
-        let e : i ≡ length p + (i - length p) = omega arith in
-        ap (λ (k : ℕ). getD (p ++ replicate (n - length p) 0) k 0) e
-        ∙ getD-append-add p (replicate (n - length p) 0) (i - length p) 0
-        ∙ zeros (n - length p) (i - length p) ∙ sym (List·getD-eq-default p 0 h)
 
 -- all bytes
 pub filled-all : (n : ℕ) (p w : List ℕ) → length p ≤ n → over w (filled n p) n ≡ filled n p ++ drop n w

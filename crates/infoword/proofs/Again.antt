@@ -54,15 +54,18 @@ pub record Sound (w : List ℕ) : Type 0 where
   pub version-is : versionOf w ≡ 0
   pub rfu-is : rfuOf w ≡ 0
 
+-- the end of 32 bits that are zero
+pub last-four : (w : List ℕ) → fieldAt w 12228 32 ≡ 0 → fieldAt w 12256 4 ≡ 0
+last-four w f =
+    let g : number (bitAt w) 12228 32 ≡ number (bitAt w) 12228 28 * 16 + number (bitAt w) 12256 4 = number-append (bitAt w) 12228 28 4 in
+    field-is w 12256 4 (omega arith) ∙ omega (arith, f, g, field-is w 12228 32 (omega arith))
+
 -- the end of RFU, which is 0 where all of it is
 last-rfu : (w : List ℕ) → rfuOf w ≡ 0 → fieldAt w 12256 4 ≡ 0
 unfolding rfuOf
 last-rfu w z =
     elim (ℕ-discrete (kindOf w) 2) [
-      | yes e ↦ (
-          let f : fieldAt w 12228 32 ≡ 0 = ap (λ (r : ℕ). fieldAt w (12260 - r) r) (sym (rfu-2 (kindOf w) e)) ∙ z in
-          let g : number (bitAt w) 12228 32 ≡ number (bitAt w) 12228 28 * 16 + number (bitAt w) 12256 4 = number-append (bitAt w) 12228 28 4 in
-          field-is w 12256 4 (omega arith) ∙ omega (arith, f, g, field-is w 12228 32 (omega arith)))
+      | yes e ↦ last-four w (ap (λ (r : ℕ). fieldAt w (12260 - r) r) (sym (rfu-2 (kindOf w) e)) ∙ z)
       | no n ↦ ap (λ (r : ℕ). fieldAt w (12260 - r) r) (sym (rfu-other (kindOf w) n)) ∙ z
     ]
 

@@ -1,17 +1,17 @@
 -- Laws of a word that is written: its length, its fields, its packet and its parity parts.
 -- Assumes nothing.
-use Prim.Native.Nat.{ℕ, _+_, _-_, _*_, _≤_, _<_}
+use Prim.Native.Nat.{ℕ, zero, suc, _+_, _-_, _*_, _/_, _%_, _^_, _≤_, _<_}
 use mathlib.Core.Bool.{Bool, true, false}
-use mathlib.Core.Path.{_≡_, refl, sym, ap, _∙_}
+use mathlib.Core.Path.{_≡_, refl, sym, ap, ap₂, _∙_, subst}
 use mathlib.Core.List.{List, [], _++_, append-assoc}
-use native.Mathlib.Nat.{zero-add}
-use native.Mathlib.Decide.{ℕ-discrete}
+use native.Mathlib.Nat.{zero-add, zero-div}
+use native.Mathlib.Decide.{decLt, ℕ-discrete}
 use native.Mathlib.Omega.{arith}
 use borrow.Author.Tests.{eq-eqb, ne-eqb}
 use lib.Dec.{eqb}
 use lib.Pow.{pow-pos}
-use lib.ListN.{length, take, drop, replicate, length-append, length-replicate, getD}
-use lib.Seq.{take-at, drop-append-add}
+use lib.ListN.{length, take, drop, replicate, length-append, length-replicate, getD-replicate, getD, List·getD-append, List·getD-eq-default}
+use lib.Seq.{take-at, drop-append-add, getD-append-add}
 use Rattle.ground.specs.Choice.{choose}
 use Rattle.ground.proofs.Choice.{choose-true, choose-false}
 use Rattle.ground.proofs.Table.{getD-tab}
@@ -19,6 +19,7 @@ use Rattle.bits.specs.Lists.{bits, num, unpack, pack, Below}
 use Rattle.bits.specs.Places.{bitAt, number, fieldAt}
 use Rattle.bits.proofs.Below.{below-append}
 use Rattle.bits.proofs.Lists.{bits-length, bits-below, num-bits, unpack-length, unpack-append, unpack-pack, pack-length}
+use Rattle.bits.proofs.Places.{number-append, number-cong, field-is, bit-front}
 use Rattle.bits.proofs.Joined.{run-below, number-num}
 use Rattle.parity.specs.Part.{messageAt, partOf, partsOf, heldOf}
 use Rattle.parity.proofs.Laws.{part-lt}
@@ -51,6 +52,29 @@ packet-le kind = at (eqb kind 2) (eqb kind 1)
 pub filled-length : (n : ℕ) (p : List ℕ) → length p ≤ n → length (filled n p) ≡ n
 unfolding filled
 filled-length n p h = simp (length-append, length-replicate {A = ℕ}) (omega arith)
+
+-- behind the packet stand zeros
+pub filled-at : (n : ℕ) (p : List ℕ) (i : ℕ) → getD (filled n p) i 0 ≡ getD p i 0
+unfolding filled
+filled-at n p i =
+    elim (decLt i (length p)) [
+      | yes h ↦ List·getD-append p (replicate (n - length p) 0) 0 i h
+      | no h ↦ behind (omega arith)
+    ]
+  where
+    zeros : (n k : ℕ) → _≡_ {A = ℕ} (getD (replicate n 0) k 0) 0
+    zeros n k =
+        elim (decLt k n) [
+          | yes l ↦ getD-replicate n k 0 0 l
+          | no l ↦ (let e : length (replicate {A = ℕ} n 0) ≤ k = rw (length-replicate {A = ℕ}) (omega arith) in List·getD-eq-default (replicate n 0) 0 e)
+        ]
+
+    behind : length p ≤ i → getD (p ++ replicate (n - length p) 0) i 0 ≡ getD p i 0
+    behind h =
+        let e : i ≡ length p + (i - length p) = omega arith in
+        ap (λ (k : ℕ). getD (p ++ replicate (n - length p) 0) k 0) e
+        ∙ getD-append-add p (replicate (n - length p) 0) (i - length p) 0
+        ∙ zeros (n - length p) (i - length p) ∙ sym (List·getD-eq-default p 0 h)
 
 pub parity-2 : (kind : ℕ) (p : List ℕ) → kind ≡ 2 → parityParts kind p ≡ fields49 (partsOf p)
 unfolding parityParts
@@ -201,3 +225,36 @@ module _ (id : ℕ) (p : List ℕ) (n : length p ≡ 1504) where
 
   pub held-back : heldOf (wordOf 2 id p) ≡ 15
   held-back = held-all (wordOf 2 id p) part-there
+
+-- zeros spell 0
+zeros-number : (i n : ℕ) → number (λ k. 0) i n ≡ 0
+unfolding number
+zeros-number i zero = refl
+zeros-number i (suc n) = ap (λ (x : ℕ). x * 2 + 0) (zeros-number i n)
+
+-- of types 0 and 2 there are 32 zeros before STS_ID: RFU of type 2, and of type 0 the end of the zeros and RFU
+pub zeros-back : (kind id : ℕ) (p : List ℕ) → kind ≤ 2 → length p ≡ packetBytes kind → (kind ≡ 1 → ⊥) → fieldAt (wordOf kind id p) 12228 32 ≡ 0
+unfolding rfuOf wordOf bitAt
+zeros-back kind id p k n one =
+    let fit : length p ≤ frontBytes kind = subst (λ (x : ℕ). x ≤ frontBytes kind) (sym n) (packet-le kind) in
+    let w : List ℕ = wordOf kind id p in
+    let kw : kindOf w ≡ kind = kind-back kind id p fit (omega arith) in
+    let z : fieldAt w (12260 - rfuBits (kindOf w)) (rfuBits (kindOf w)) ≡ 0 = rfu-back kind id p fit (omega arith) in
+    elim (ℕ-discrete kind 2) [
+      | yes e ↦ ap (λ (r : ℕ). fieldAt w (12260 - r) r) (sym (rfu-2 (kindOf w) (kw ∙ e))) ∙ z
+      | no e ↦ (
+          let four : fieldAt w 12256 4 ≡ 0 = ap (λ (r : ℕ). fieldAt w (12260 - r) r) (sym (rfu-other (kindOf w) (λ t. e (sym kw ∙ t)))) ∙ z in
+          let dummy-kind : kind ≡ 0 = omega (arith, k, one, e) in
+          let none : length p ≡ 0 = n ∙ ap packetBytes dummy-kind in
+          field-is w 12228 32 (omega arith) ∙ number-append (bitAt w) 12228 28 4
+          ∙ ap₂ (λ (x y : ℕ). x * 16 + y) (number-cong (bitAt w) (λ k. 0) 12228 28 (λ k l. dummy (front-other kind e) none k l) ∙ zeros-number 12228 28) (sym (field-is w 12256 4 (omega arith)) ∙ four))
+    ]
+  where
+    dummy : frontBytes kind ≡ 1532 → length p ≡ 0 → (k : ℕ) → k < 28 → bitAt (wordOf kind id p) (12228 + k) ≡ 0
+    dummy long none k l =
+        let f : List ℕ = filled (frontBytes kind) p in
+        let m : length f ≡ frontBytes kind = filled-length (frontBytes kind) p (subst (λ (x : ℕ). x ≤ frontBytes kind) (sym none) (omega arith)) in
+        let most : 12256 ≤ 8 * length f = omega (arith, m, long) in
+        bit-front f (pack (1536 - frontBytes kind) (parityParts kind p ++ closed (header (bits (rfuBits kind) 0) id kind 0))) (12228 + k) (omega arith)
+        ∙ ap (λ (x : ℕ). x / 2 ^ (7 - (12228 + k) % 8) % 2) (filled-at (frontBytes kind) p ((12228 + k) / 8) ∙ List·getD-eq-default p 0 (subst (λ (x : ℕ). x ≤ (12228 + k) / 8) (sym none) (omega arith)))
+        ∙ ap (λ (x : ℕ). x % 2) (zero-div (2 ^ (7 - (12228 + k) % 8)))

@@ -5,6 +5,7 @@ use mathlib.Core.Bool.{not}
 use mathlib.Core.Path.{_≡_, subst}
 use mathlib.Core.Logic.{_↔_}
 use mathlib.Core.List.{List, [], _∷_}
+use native.Mathlib.Omega.{arith}
 use contract.Lifetimes.{Lfts}
 use borrow.Fn.World.{ArgsD, ResD}
 use borrow.Fn.Kinds.{endedOf}
@@ -13,15 +14,19 @@ use denote.Triple.Clauses.{AtExit}
 use lib.Dec.{eqb}
 use lib.ListN.{length, getD, take}
 use Rattle.ground.specs.Outcome.{Outcome, Is}
+use Rattle.ground.proofs.Outcome.{agree}
 use Rattle.ground.specs.Choice.{choose, refuse, firstOf, refusing}
 use Rattle.parity.specs.Part.{received}
 use Rattle.parity.specs.Claims.{Sound}
+use Rattle.infoword.specs.Suffix.{kindOf, covered}
 use Rattle.infoword.specs.Word.{packetBytes}
 use Rattle.encapsulation.specs.Writing.{packetOf}
 use Rattle.encapsulation.specs.Claims.{plainWord}
 use Rattle.encapsulation.proofs.Plain.{types-0-and-1}
 use Rattle.payload.specs.Answers.{writtenHeader, headerBytes}
 use Rattle.payload.specs.Damage.{OneBit, OddIn, PartSeenIn}
+use Rattle.payload.proofs.Answers.{into-refused}
+use Rattle.payload.proofs.Types.{written-damaged}
 use Rattle.payload.proofs.WaysBack.{header-after, packet-after}
 use Rattle.payload.proofs.InBytes.{into-damaged, into-means, into-part-seen}
 use Rattle.opl.proofs.opl_payload_write as opl-payload-write
@@ -46,6 +51,15 @@ module _ (κs : Lfts 3) (a : ArgsD opl-payload-write.signature κs) (r : ResD op
       header-after (a .0) (a .1 .0) (a .1 .1 .0) (now (a .1 .1 .1 .0)) (now (a .1 .1 .1 .1 .0)) (now (a .1 .1 .1 .1 .1 .0)) r left (did .0) zero (did .1)
       (now (b .0)) (now (b .1 .0)) (now (t .1 .0)) n e l (p .0)
 
+  -- of a word with one other header bit, be it of the stream type, opl_payload_read with 16 bytes answers 5, and nothing is touched
+  pub opl-refused-where-sent-damaged : (κt : Lfts 2) (b : ArgsD opl-payload-read.signature κt) (n : ResD opl-payload-read.signature κt)
+      (t : AtExit (endedOf 2 opl-payload-read-kinds.ps opl-payload-read-kinds.r) κt) (i : ℕ)
+      → OneBit left (now (b .0)) i → length (now (b .1 .0)) ≡ 16 → opl-payload-read-reads.Post κt b n t → (n ≡ 5) × (now (t .1 .0) ≡ now (b .1 .0))
+  opl-refused-where-sent-damaged κt b n t i d l p =
+      agree (p .0) (into-refused (now (b .0)) (now (b .1 .0)) l 5
+      (written-damaged (a .0) (a .1 .0) (a .1 .1 .0) (now (a .1 .1 .1 .0)) (now (a .1 .1 .1 .1 .0)) (now (a .1 .1 .1 .1 .1 .0)) r left (did .0) zero (did .1) (now (b .0)) i d)
+      (omega arith))
+
   -- and the word begins with the payload, for type 2 with the null packets behind it
   pub opl-payload-kept : take (packetBytes (a .0)) left ≡ packetOf (a .0) (a .1 .1 .0) (now (a .1 .1 .1 .0)) (now (a .1 .1 .1 .1 .0))
   opl-payload-kept = packet-after (a .0) (a .1 .0) (a .1 .1 .0) (now (a .1 .1 .1 .0)) (now (a .1 .1 .1 .1 .0)) (now (a .1 .1 .1 .1 .1 .0)) r left (did .0) zero (did .1)
@@ -67,10 +81,11 @@ module _ (κs : Lfts 2) (a : ArgsD opl-payload-read.signature κs) (r : ResD opl
 
   module _ (κt : Lfts 2) (b : ArgsD opl-payload-read.signature κt) (n : ResD opl-payload-read.signature κt)
       (t : AtExit (endedOf 2 opl-payload-read-kinds.ps opl-payload-read-kinds.r) κt) (room : length (now (b .1 .0)) ≡ 16) (p : opl-payload-read-reads.Post κt b n t) where
-    -- of a word with one other header bit: it is refused with 5, and nothing is touched
-    pub opl-refused-where-damaged : (i : ℕ) → OneBit (now (a .0)) (now (b .0)) i → (n ≡ 5) × (now (t .1 .0) ≡ now (b .1 .0))
-    opl-refused-where-damaged i d =
-        into-damaged (now (a .0)) (now (a .1 .0)) r header (did .0) zero (now (b .0)) (now (b .1 .0)) n (now (t .1 .0)) i d room (p .0)
+    -- of a word with one other header bit, whose stream type has as many covered bits: it is refused with 5, and nothing is touched
+    pub opl-refused-where-damaged : (i : ℕ) → OneBit (now (a .0)) (now (b .0)) i → covered (kindOf (now (b .0))) ≡ covered (kindOf (now (a .0)))
+        → (n ≡ 5) × (now (t .1 .0) ≡ now (b .1 .0))
+    opl-refused-where-damaged i d span =
+        into-damaged (now (a .0)) (now (a .1 .0)) r header (did .0) zero (now (b .0)) (now (b .1 .0)) n (now (t .1 .0)) i d span room (p .0)
 
     -- of a word with an odd number of other bits within part k, which held: just part k is reported as not holding
     pub opl-part-seen : getD header 5 0 ≡ 2 → (k : ℕ) → getD header 7 0 / 2 ^ k % 2 ≡ 1 → OddIn (now (a .0)) (now (b .0)) k → PartSeenIn header n (now (t .1 .0)) k

@@ -33,20 +33,20 @@ unfolding headerCrc
 header-crc-changes h i b below bit room e = crc-changes 8 0x2F h i b (omega arith) (omega arith) refl below bit room e
 
 -- the fields from a place on that no change is behind
-same-field : (w v : List ℕ) (from : ℕ) → ((k : ℕ) → from ≤ k → bitAt v k ≡ bitAt w k) → (at n : ℕ) → n ≤ 32 → from ≤ at → fieldAt v at n ≡ fieldAt w at n
+pub same-field : (w v : List ℕ) (from : ℕ) → ((k : ℕ) → from ≤ k → bitAt v k ≡ bitAt w k) → (at n : ℕ) → n ≤ 32 → from ≤ at → fieldAt v at n ≡ fieldAt w at n
 same-field w v from same at n h l =
     field-is v at n h ∙ number-cong (bitAt v) (bitAt w) at n (λ k p. same (at + k) (omega arith)) ∙ sym (field-is w at n h)
 
 -- no more than 46 bits are covered
-covered-most : (kind : ℕ) → covered kind ≤ 46
+pub covered-most : (kind : ℕ) → covered kind ≤ 46
 covered-most kind =
     elim (ℕ-discrete kind 2) [
       | yes e ↦ omega (arith, covered-2 kind e)
       | no n ↦ omega (arith, covered-other kind n)
     ]
 
--- two words that differ in one covered bit
-module _ (w v : List ℕ) (i : ℕ) (d : OneBit w v i) where
+-- two words that differ in one covered bit, and have as many of them
+module _ (w v : List ℕ) (i : ℕ) (d : OneBit w v i) (span : covered (kindOf v) ≡ covered (kindOf w)) where
   n : ℕ
   n = covered (kindOf w)
 
@@ -78,7 +78,7 @@ module _ (w v : List ℕ) (i : ℕ) (d : OneBit w v i) where
 
   covered-v : coveredOf v ≡ set (coveredOf w) i (bitAt v (at + i))
   unfolding n at
-  covered-v = covered-run v (covered (kindOf w)) (d .span) ∙ run-is ∙ ap (λ (l : List ℕ). set l i (bitAt v (at + i))) (sym covered-w)
+  covered-v = covered-run v (covered (kindOf w)) span ∙ run-is ∙ ap (λ (l : List ℕ). set l i (bitAt v (at + i))) (sym covered-w)
 
   covered-below : Below 2 (coveredOf w)
   covered-below = subst (λ (l : List ℕ). Below 2 l) (sym covered-w) (run-below w at n)

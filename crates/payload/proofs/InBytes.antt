@@ -19,7 +19,7 @@ use Rattle.parity.specs.Claims.{Sound}
 use Rattle.parity.proofs.Sound.{meaning}
 use Rattle.parity.proofs.Received.{received-bits}
 use Rattle.parity.proofs.Which.{held-set, held-true}
-use Rattle.infoword.specs.Suffix.{kindOf}
+use Rattle.infoword.specs.Suffix.{kindOf, covered}
 use Rattle.fields.specs.Report.{readFaults, readRefusal, holdingOf, headerOf}
 use Rattle.payload.specs.Answers.{headerBytes, readInto}
 use Rattle.payload.specs.Damage.{OneBit, OddIn, PartSeenIn}
@@ -61,9 +61,10 @@ module _ (w out : List ℕ) (n : ℕ) (m : List ℕ) (o : Is (readInto w out) n 
   unfolding headerOf
   kind-left = ap (λ (l : List ℕ). getD l 5 0) header-left ∙ kind-byte (headerOf w)
 
-  -- one other header bit: 5, and nothing is touched
-  pub into-damaged : (v out' : List ℕ) (r : ℕ) (m' : List ℕ) (i : ℕ) → OneBit w v i → length out' ≡ 16 → Is (readInto v out') r m' → (r ≡ 5) × (m' ≡ out')
-  into-damaged v out' r m' i d l q = agree q (into-refused v out' l 5 (damaged w v i d (accepted .1)) (omega arith))
+  -- one other header bit, which leaves the number of covered bits: 5, and nothing is touched
+  pub into-damaged : (v out' : List ℕ) (r : ℕ) (m' : List ℕ) (i : ℕ) → OneBit w v i → covered (kindOf v) ≡ covered (kindOf w)
+      → length out' ≡ 16 → Is (readInto v out') r m' → (r ≡ 5) × (m' ≡ out')
+  into-damaged v out' r m' i d s l q = agree q (into-refused v out' l 5 (damaged w v i d s (accepted .1)) (omega arith))
 
   -- of stream type 2
   module _ (two : getD m 5 0 ≡ 2) where

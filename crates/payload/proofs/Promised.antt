@@ -19,7 +19,7 @@ use Rattle.parity.specs.Claims.{Sound}
 use Rattle.parity.proofs.Sound.{meaning}
 use Rattle.parity.proofs.Received.{received-bits}
 use Rattle.parity.proofs.Which.{held-set, held-true}
-use Rattle.infoword.specs.Suffix.{kindOf}
+use Rattle.infoword.specs.Suffix.{kindOf, covered}
 use Rattle.infoword.proofs.Written.{packet-2}
 use Rattle.encapsulation.specs.Writing.{packetOf}
 use Rattle.encapsulation.proofs.write as write
@@ -34,6 +34,7 @@ use Rattle.fields.proofs.Faults.{Readable, read-0, readable}
 use Rattle.payload.proofs.Answers.{tells-refusal, tells-header, header-told, shows, told-inj}
 use Rattle.payload.proofs.WaysBack.{header-told-after, header-after, shown-after, write-again}
 use Rattle.payload.proofs.Damage.{damaged, same-behind, part-fails, others-stay, still-readable, same-rfu}
+use Rattle.payload.proofs.Types.{written-damaged}
 use Rattle.payload.proofs.read as read
 use Rattle.payload.proofs.read.Kinds as read-kinds
 use Rattle.payload.proofs.read.Reads as read-reads
@@ -79,6 +80,14 @@ module _ (κs : Lfts 3) (a : ArgsD write.signature κs) (r : ResD write.signatur
       header-after kind id (a .1 .1 .0) (now (a .1 .1 .1 .0)) (now (a .1 .1 .1 .1 .0)) (now (a .1 .1 .1 .1 .1 .0)) r left (did .0) zero (did .1)
       (now (b .0)) (now (b .1 .0)) (now (t .1 .0)) n e l (p .0)
 
+  -- a word of 1,536 bytes that differs from it in one of the header bits that the CRC covers alone, be it of the stream type, is refused with 5
+  pub refused-where-sent-damaged : (κt : Lfts 1) (b : ArgsD read.signature κt) (k : ResD read.signature κt) (t : AtExit (endedOf 1 read-kinds.ps read-kinds.r) κt) (i : ℕ)
+      → OneBit left (now (b .0)) i → read-reads.Post κt b k t → k ≡ Refused 5
+  refused-where-sent-damaged κt b k t i d p =
+      told-inj k (Refused 5)
+      (p .0 ∙ sym (tells-refusal (now (b .0)) 5
+      (written-damaged kind id (a .1 .1 .0) (now (a .1 .1 .1 .0)) (now (a .1 .1 .1 .1 .0)) (now (a .1 .1 .1 .1 .1 .0)) r left (did .0) zero (did .1) (now (b .0)) i d) (omega arith)))
+
 -- after a call read(word) that gave a header
 module _ (κs : Lfts 1) (a : ArgsD read.signature κs) (r : ResD read.signature κs) (s : AtExit (endedOf 1 read-kinds.ps read-kinds.r) κs)
     (saw : read-reads.Post κs a r s) (h : Header) (found : r ≡ Accepted h) where
@@ -110,11 +119,12 @@ module _ (κs : Lfts 1) (a : ArgsD read.signature κs) (r : ResD read.signature 
       (ek ∙ kind-is) (ei ∙ ap (λ (x : Header). x .id) f) (ep ∙ showed ∙ ap shown same) ec one len (did .0) in
       (g .0, g .1, g .2, λ two p. g .3 two (sym (choose-true (heldOf word) 0 (eq-eqb (kindOf word) 2 (sym (ek ∙ kind-is) ∙ two))) ∙ sym (ap (λ (x : Header). x .parity) f) ∙ p))
 
-  -- a word of 1,536 bytes that differs from it in one of the header bits that the CRC covers alone is refused with 5
+  -- a word of 1,536 bytes that differs from it in one of the header bits that the CRC covers alone is refused with 5, where its stream type
+  -- has as many of them
   pub refused-where-damaged : (κt : Lfts 1) (b : ArgsD read.signature κt) (k : ResD read.signature κt) (t : AtExit (endedOf 1 read-kinds.ps read-kinds.r) κt) (i : ℕ)
-      → OneBit word (now (b .0)) i → read-reads.Post κt b k t → k ≡ Refused 5
-  refused-where-damaged κt b k t i d p =
-      told-inj k (Refused 5) (p .0 ∙ sym (tells-refusal (now (b .0)) 5 (damaged word (now (b .0)) i d (readable word (sym (facts .0)))) (omega arith)))
+      → OneBit word (now (b .0)) i → covered (kindOf (now (b .0))) ≡ covered (kindOf word) → read-reads.Post κt b k t → k ≡ Refused 5
+  refused-where-damaged κt b k t i d span p =
+      told-inj k (Refused 5) (p .0 ∙ sym (tells-refusal (now (b .0)) 5 (damaged word (now (b .0)) i d span (readable word (sym (facts .0)))) (omega arith)))
 
   -- of stream type 2
   module _ (two : h .kind ≡ 2) where

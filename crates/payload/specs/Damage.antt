@@ -12,11 +12,9 @@ use Rattle.fields.specs.declared.Header.{Header}
 use Rattle.payload.specs.declared.Reading.{Reading}
 use Rattle.payload.specs.declared.Reading.the-variants.{Accepted}
 
--- v is w with another bit i of those that the CRC covers, from RFU to Encap_Ver. Where that bit is one of the stream type, it leaves it to
--- the same number of covered bits
+-- v is w with another bit i of those that the CRC covers in w, from RFU to Encap_Ver
 pub record OneBit (w v : List ℕ) (i : ℕ) : Type 0 where
   pub room : i < covered (kindOf w)
-  pub span : covered (kindOf v) ≡ covered (kindOf w)
   pub long : length v ≡ 1536
   pub same : (k : ℕ) → (k ≡ 12274 - covered (kindOf w) + i → ⊥) → bitAt v k ≡ bitAt w k
   pub other : bitAt v (12274 - covered (kindOf w) + i) ≡ bitAt w (12274 - covered (kindOf w) + i) → ⊥

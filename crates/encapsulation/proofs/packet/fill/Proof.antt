@@ -7,8 +7,8 @@ use borrow.Author.Needs.{needs}
 use lib.ListN.{length, set, getD}
 use Rattle.ground.proofs.Copy.{over, over-more, over-length}
 use Rattle.infoword.specs.Word.{filled}
-use Rattle.infoword.proofs.Written.{filled-length}
-use Rattle.encapsulation.proofs.Stores.{filled-at, filled-all}
+use Rattle.infoword.proofs.Written.{filled-length, filled-at}
+use Rattle.encapsulation.proofs.Stores.{filled-all}
 use Rattle.encapsulation.proofs.packet.fill.Statement.{statement}
 use Rattle.encapsulation.proofs.packet.fill.Tie as tie
 use Rattle.encapsulation.proofs.packet.fill.Reads as reads
