@@ -1,6 +1,8 @@
 // The payload that is lent: its size by stream type, what is refused of it, and the bytes before the header that it fills.
 use crate::transport;
 use crate::transport::TS_PACKET;
+use infoword::TRANSPARENT;
+use infoword::TRANSPARENT_BYTES;
 use infoword::TRANSPORT_STREAM;
 ghost use mathlib.Core.Path.{_≡_};
 ghost use mathlib.Core.List.{_++_};
@@ -8,12 +10,6 @@ ghost use Prim.Native.Nat.{_≤_};
 ghost use lib.ListN.{length, drop};
 ghost use Rattle.infoword.specs.Word.{filled};
 ghost use Rattle.encapsulation.specs.Writing.{lentBytes, writeRefusal};
-
-// The stream type of transparent words (table 1).
-const TRANSPARENT: u32 = 1;
-
-// The bytes before the last four.
-const PACKET: usize = 1532;
 
 // How many bytes are lent for the payload of a stream type, of type 2 with so many packets.
 fn bytes(kind: u32, count: u32) -> usize
@@ -23,7 +19,7 @@ fn bytes(kind: u32, count: u32) -> usize
         return TS_PACKET * count as usize;
     }
     if kind == TRANSPARENT {
-        return PACKET;
+        return TRANSPARENT_BYTES;
     }
     0
 }
@@ -56,7 +52,7 @@ pub fn fill(payload: &[u8], word: &mut [u8])
     ensures { λ _. ⌜ now (word .exit) ≡ filled 1532 (now (payload .entry)) ++ drop 1532 (now (word .entry)) ⌝ }
 {
     let mut i = 0;
-    while i < PACKET {
+    while i < TRANSPARENT_BYTES {
         word[i] = bits::byte(payload, i);
         i += 1;
     }

@@ -9,6 +9,9 @@ use ground::TYPE_UNKNOWN;
 use infoword::RFU;
 use infoword::RFU_OF_TYPE_2;
 use infoword::STREAM_TYPE;
+use infoword::TRANSPARENT;
+use infoword::TRANSPARENT_BYTES;
+use infoword::TRANSPORT_BYTES;
 use infoword::TRANSPORT_STREAM;
 ghost use mathlib.Core.Path.{_≡_};
 ghost use Prim.Native.Nat.{_≤_};
@@ -34,9 +37,6 @@ const STREAM_ID: usize = 12260;
 const ENCAP_VER: usize = 12271;
 
 const HEADER_CRC: usize = 12274;
-
-// The stream type of transparent words (table 1).
-const TRANSPARENT: u32 = 1;
 
 // A field of at most eight bits.
 fn field(word: &[u8], at: usize, n: usize) -> u8
@@ -118,10 +118,10 @@ pub fn bytes(kind: u32) -> usize
     ensures { λ r. ⌜ (r ≡ packetBytes kind) × (r ≤ 1532) ⌝ }
 {
     if kind == TRANSPORT_STREAM {
-        return 1504;
+        return TRANSPORT_BYTES;
     }
     if kind == TRANSPARENT {
-        return 1532;
+        return TRANSPARENT_BYTES;
     }
     0
 }

@@ -8,30 +8,45 @@ ghost use mathlib.Core.Path.{_≡_};
 ghost use Rattle.infoword.specs.Suffix.{coveredOf, headerCrc};
 ghost use Rattle.infoword.specs.Steps.{parted, closing};
 
-// The stream type of transport streams (table 1).
+// The stream types of transparent words and of transport streams, and the size of their payload packets, in bytes (table 1).
+pub const TRANSPARENT: u32 = 1;
+
 pub const TRANSPORT_STREAM: u32 = 2;
+
+pub const TRANSPARENT_BYTES: usize = 1532;
+
+pub const TRANSPORT_BYTES: usize = 1504;
 
 // Where STS_Stream_Type_ID stands (tables 2 to 4), in bits.
 pub const STREAM_TYPE: usize = 12268;
 
-// Where RFU begins in type 2 (table 4) and in types 0 and 1 (tables 2 and 3), in bits.
+// Where RFU begins in type 2 (table 4) and in any other (tables 2 and 3), in bits, and how many bits of header the CRC covers from there on.
 pub const RFU_OF_TYPE_2: usize = 12228;
+
+const COVERED_OF_TYPE_2: usize = 46;
 
 pub const RFU: usize = 12256;
 
-// The bytes before the last four, and before Parity_Parts (table 4).
+const COVERED: usize = 18;
+
+// The bytes before the last four.
 const LAST: usize = 1532;
 
-const PARITY_PARTS: usize = 1504;
+// In the last four bytes as a number: one more than 18 bits of header hold, and the weights of their lowest bit and of the CRC's.
+const HEAD_END: u64 = 1 << 18;
+
+const HEAD: u64 = 1 << 14;
+
+const CRC: u64 = 1 << 6;
 
 // The CRC that is due in a word: over the 46 header bits of type 2, and over 18 in any other.
 pub fn crc(word: &[u8]) -> u8
     ensures { λ r. ⌜ r ≡ headerCrc (coveredOf (now (word .entry))) ⌝ }
 {
     if bits::field(word, STREAM_TYPE, 3) == TRANSPORT_STREAM {
-        return crc::crc8(word, RFU_OF_TYPE_2, 46);
+        return crc::crc8(word, RFU_OF_TYPE_2, COVERED_OF_TYPE_2);
     }
-    crc::crc8(word, RFU, 18)
+    crc::crc8(word, RFU, COVERED)
 }
 
 // Parity_Parts of the first 1,504 bytes of a word, and zeros from there to the last four bytes.
@@ -42,7 +57,7 @@ pub fn part(word: &mut [u8])
         return;
     }
     let v = parity::parts(word);
-    parts::put(&mut word[PARITY_PARTS..LAST], &v);
+    parts::put(&mut word[TRANSPORT_BYTES..LAST], &v);
 }
 
 // The last four bytes of a word: the low 18 bits of a number as the end of the header, the CRC that is due in the word with them, and
@@ -59,8 +74,8 @@ pub fn close(word: &mut [u8], head: u32)
         at: LAST,
     };
     // no CRC at first, and the spare bits
-    let bare = head as u64 % 0x40000 * 0x4000;
+    let bare = head as u64 % HEAD_END * HEAD;
     wide::put(word, last, bare, 32);
     let crc = crc(word);
-    wide::put(word, last, bare + crc as u64 * 0x40, 32);
+    wide::put(word, last, bare + crc as u64 * CRC, 32);
 }
