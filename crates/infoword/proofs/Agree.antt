@@ -10,9 +10,9 @@ use Rattle.ground.proofs.Outcome.{same}
 use Rattle.infoword.proofs.crc as crc
 use Rattle.infoword.proofs.crc.Kinds as crc-kinds
 use Rattle.infoword.proofs.crc.Reads as crc-reads
-use Rattle.infoword.proofs.part as part
-use Rattle.infoword.proofs.part.Kinds as part-kinds
-use Rattle.infoword.proofs.part.Reads as part-reads
+use Rattle.infoword.proofs.put_parts as put-parts
+use Rattle.infoword.proofs.put_parts.Kinds as put-parts-kinds
+use Rattle.infoword.proofs.put_parts.Reads as put-parts-reads
 use Rattle.infoword.proofs.close as close
 use Rattle.infoword.proofs.close.Kinds as close-kinds
 use Rattle.infoword.proofs.close.Reads as close-reads
@@ -22,10 +22,10 @@ module _ (κs : Lfts 1) (a : ArgsD crc.signature κs) where
       crc-reads.Post κs a r s → crc-reads.Post κs a r′ s′ → r ≡ r′
   crc-agrees r r′ s s′ p q = same p q
 
-module _ (κs : Lfts 1) (a : ArgsD part.signature κs) where
-  pub part-agrees : (r r′ : ResD part.signature κs) (s s′ : AtExit (endedOf 1 part-kinds.ps part-kinds.r) κs) →
-      part-reads.Post κs a r s → part-reads.Post κs a r′ s′ → now (s .0) ≡ now (s′ .0)
-  part-agrees r r′ s s′ p q = same p q
+module _ (κs : Lfts 1) (a : ArgsD put-parts.signature κs) where
+  pub put-parts-agrees : (r r′ : ResD put-parts.signature κs) (s s′ : AtExit (endedOf 1 put-parts-kinds.ps put-parts-kinds.r) κs) →
+      put-parts-reads.Post κs a r s → put-parts-reads.Post κs a r′ s′ → now (s .0) ≡ now (s′ .0)
+  put-parts-agrees r r′ s s′ p q = same p q
 
 module _ (κs : Lfts 1) (a : ArgsD close.signature κs) where
   pub close-agrees : (r r′ : ResD close.signature κs) (s s′ : AtExit (endedOf 1 close-kinds.ps close-kinds.r) κs) →

@@ -50,7 +50,7 @@ pub fn crc(word: &[u8]) -> u8
 }
 
 // Parity_Parts of the first 1,504 bytes of a word, and zeros from there to the last four bytes.
-pub fn part(word: &mut [u8])
+pub fn put_parts(word: &mut [u8])
     ensures { λ _. ⌜ now (word .exit) ≡ parted (now (word .entry)) ⌝ }
 {
     if word.len() != PAYLOAD_WORD {

@@ -11,7 +11,7 @@ use Rattle.encapsulation.proofs.transport.carry.Tie as tie
 use Rattle.encapsulation.proofs.transport.carry.Reads as reads
 use Rattle.encapsulation.proofs.transport.carry.Lts as lts
 use Rattle.encapsulation.proofs.transport.fill_up.Reads as fill-up-reads
-use Rattle.infoword.proofs.part.Reads as part-reads
+use Rattle.infoword.proofs.put_parts.Reads as put-parts-reads
 
 returns : tie.Need-returns
 unfolding carried
@@ -25,8 +25,8 @@ fill-up-requires c κs =
     let f = s .pre .0 (omega (arith, c .before .if1 .left)) in
     (f .1, s .pre .1, f .0)
 
-part-requires : tie.Need-part-requires
-part-requires c κs = search needs
+put-parts-requires : tie.Need-put-parts-requires
+put-parts-requires c κs = search needs
 
 same-length : tie.Need-same-length
 same-length c = search needs
@@ -38,8 +38,8 @@ returns-2 c =
     let p = q .before .before .before .before in
     let o = p .before .before in
     let a = o .before .before .before .args in
-    q .part .ensures ∙ ap parted (p .fill-up .ensures)
+    q .put-parts .ensures ∙ ap parted (p .fill-up .ensures)
     ∙ sym (choose-true (parted (filledUp (a .count) (a .null .now) (a .word .now))) (a .word .now) (eq-eqb (a .kind) 2 (omega (arith, o .if1 .left))))
 
 pub carry-spec : {M : Type 1} → statement M
-carry-spec = tie.close (tie.spec returns fill-up-requires part-requires same-length returns-2)
+carry-spec = tie.close (tie.spec returns fill-up-requires put-parts-requires same-length returns-2)

@@ -1,4 +1,4 @@
--- `infoword::part` meets its contract. Assumes nothing.
+-- `infoword::put_parts` meets its contract. Assumes nothing.
 use Prim.Native.Nat.{ℕ, _^_}
 use mathlib.Core.Path.{sym, ap, _∙_, subst}
 use mathlib.Core.List.{List, _++_}
@@ -8,10 +8,10 @@ use Rattle.bits.specs.Lists.{bits, pack, Below}
 use Rattle.infoword.specs.Word.{fields49}
 use Rattle.infoword.proofs.Fields49.{parts-are, parted-by, parted-none}
 use borrow.Author.Needs.{needs}
-use Rattle.infoword.proofs.part.Statement.{statement}
-use Rattle.infoword.proofs.part.Tie as tie
-use Rattle.infoword.proofs.part.Reads as reads
-use Rattle.infoword.proofs.part.Lts as lts
+use Rattle.infoword.proofs.put_parts.Statement.{statement}
+use Rattle.infoword.proofs.put_parts.Tie as tie
+use Rattle.infoword.proofs.put_parts.Reads as reads
+use Rattle.infoword.proofs.put_parts.Lts as lts
 use Rattle.infoword.proofs.parts.put.Reads as put-reads
 use Rattle.parity.proofs.parts.Reads as parts-reads
 
@@ -55,8 +55,8 @@ returns-2 c =
     let w = o .before .before .args .word .now in
     parted-by w (q .put .last .0) (omega (arith, o .if1 .left)) (q .put .ensures ∙ ap (λ (l : List ℕ). pack 28 (fields49 l ++ bits 28 0)) (p .parts .ensures))
 
-pub part-spec : {M : Type 1} → statement M
-part-spec =
+pub put-parts-spec : {M : Type 1} → statement M
+put-parts-spec =
     tie.close
     (tie.spec
     returns
