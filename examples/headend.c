@@ -105,7 +105,7 @@ static bool put_codeword(struct frames *frames, const struct pipe *pipe, size_t 
     if (!take_payload(frames, payload))
         return false;
     frames->bytes += m;
-    return accepted(opl_payload_write(TRANSPARENT, id, payload, sizeof payload, word, sizeof word),
+    return accepted(opl_payload_write(TRANSPARENT, id, 0, payload, sizeof payload, OPL_EMPTY, 0, word, sizeof word),
                     "opl_payload_write", "a payload") &&
            accepted(opl_encode(pipe->pattern, word, sizeof word, codeword, m), "opl_encode", "a payload word") &&
            put(frames, codeword, m);
