@@ -1,7 +1,8 @@
 //! Tests from outside. [`second`] is an independent implementation, written from the standard and the
 //! scope and never from crates/; [`opl`] calls the proved library; the tests hold one to the other over
 //! made-up [`inputs`], and [`fuzz`] does so for as long as it is given. `bench` measures one against the
-//! other, where the library is linked. [`vectors`] is what the program crates/vectors must print.
+//! other, where the library is linked. [`vectors`] is what the program crates/vectors must print, and [`stream`]
+//! makes transport streams, examples/streams/story.ts among them.
 //!
 //! How a function is called is said in include/opl.h and nowhere here: [`opl`], [`calls`], what links the library
 //! and what calls it elsewhere are made of the prototypes there ([`prototypes`]). For a function that is new in
@@ -20,4 +21,5 @@ pub mod opl;
 pub mod prototypes;
 pub mod rng;
 pub mod second;
+pub mod stream;
 pub mod vectors;

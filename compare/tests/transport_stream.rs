@@ -4,50 +4,12 @@
 use compare::inputs::{flip_places, odd_places};
 use compare::opl;
 use compare::rng::Rng;
+use compare::stream::{null_packet, pid_of, story, stream, MINUTE, NULL_PID, PACKET, SYNC};
 use std::collections::BTreeMap;
 
-const PACKET: usize = 188;
 /// The packets of a word.
 const PACKETS: usize = 8;
 const ID: u8 = 12;
-
-/// Bits a second. So a minute ends inside a word.
-const RATE: usize = 500_000;
-const MINUTE: usize = 60 * RATE / (8 * PACKET);
-
-const SYNC: u8 = 0x47;
-/// The program association table, a program map table, three services, and packets that only fill up.
-const PIDS: [u16; 6] = [0x0000, 0x0100, 0x0101, 0x0102, 0x0200, NULL_PID];
-const NULL_PID: u16 = 0x1FFF;
-
-/// A packet: the sync byte, the PID, payload and no adaptation field, the continuity counter; then the payload.
-fn packet(pid: u16, counter: u8, payload: &[u8]) -> Vec<u8> {
-    let [high, low] = pid.to_be_bytes();
-    [&[SYNC, high, low, 0x10 | counter][..], payload].concat()
-}
-
-fn null_packet() -> Vec<u8> {
-    packet(NULL_PID, 0, &[0xFF; PACKET - 4])
-}
-
-fn pid_of(packet: &[u8]) -> u16 {
-    u16::from_be_bytes([packet[1], packet[2]]) & 0x1FFF
-}
-
-/// That many packets one after the other, each PID with its own continuity counter.
-fn stream(rng: &mut Rng, count: usize) -> Vec<u8> {
-    let mut counters = BTreeMap::new();
-    let mut next = || {
-        let pid = PIDS[rng.below(PIDS.len())];
-        if pid == NULL_PID {
-            return null_packet();
-        }
-        let counter = counters.entry(pid).or_insert(0);
-        *counter = (*counter + 1) % 16;
-        packet(pid, *counter, &rng.bytes(PACKET - 4))
-    };
-    (0..count).flat_map(|_| next()).collect()
-}
 
 /// The words of a stream.
 fn sent(rng: &mut Rng, stream: &[u8]) -> Vec<Vec<u8>> {
@@ -134,4 +96,15 @@ fn parts_that_hold_are_as_they_were_sent() {
         }
         assert_eq!(parity >> 4, 0);
     }
+}
+
+/// The demonstration's stream has null packets of its own, the last is none, and it ends inside a word.
+#[test]
+fn the_stored_stream_is_what_is_made() {
+    let stored = include_bytes!("../../examples/streams/story.ts");
+    assert!(stored[..] == story());
+    let packets: Vec<&[u8]> = stored.chunks(PACKET).collect();
+    assert_eq!((packets.len(), kept(stored).len()), (52, 44));
+    assert_ne!(packets.len() % PACKETS, 0);
+    assert_ne!(pid_of(packets[51]), NULL_PID);
 }
