@@ -24,6 +24,7 @@
 #include "readback.h"
 #include "say.h"
 #include "sheet.h"
+#include "table.h"
 
 _Static_assert(START_BYTES == OPL_PREAMBLE_BYTES + OPL_SIGNALLING_CODEWORD_BYTES, "they fill both units");
 
@@ -32,9 +33,6 @@ enum { SHEET_BYTES = 2572 };
 
 /* The stream type of the payload words: transparent (clause 4.3.2). */
 enum { TRANSPARENT = 1 };
-
-/* The slots of a pipe whose streams are printed. */
-enum { SLOTS_SHOWN = 16 };
 
 /* The frames that are played: each preamble comes twice. */
 enum { FRAMES = 4 };
@@ -151,49 +149,6 @@ static void say_start(const struct frames *frames)
     printf("\"%.28s\"\n", (const char *)frames->start);
     printf("  %-19s  %5d bytes  %d capacity units: preamble and codeword\n\n", "start of the frame", START_BYTES,
            START_BYTES / UNIT_BYTES);
-}
-
-/* Prints the streams that have a pipe's slots, and that the tail pipe's codeword is yet to be cut. */
-static void say_slots(const struct pipe *pipe, size_t slots)
-{
-    for (size_t slot = 0; slot < slots && slot < SLOTS_SHOWN; slot++)
-        printf(" %d", slot_stream(pipe, slot));
-    if (slots > SLOTS_SHOWN)
-        printf(" ..");
-    if (pipe->tail)
-        printf("  (not cut to its width: request 2026-06)");
-}
-
-/* Prints a pipe's line of the table. */
-static void say_pipe(const struct pipe *pipe, size_t number)
-{
-    size_t slots = pipe_codewords(pipe);
-    if (pipe->tail)
-        printf("  tail");
-    else
-        printf("  %4zu", number);
-    printf("  %7u  %14u  %9zu  ", pipe->pattern, pipe->width, slots);
-    if (slots != 0) {
-        printf("%10zu ", opl_codeword_bytes(pipe->pattern));
-        say_slots(pipe, slots);
-    } else if (pipe->width != 0) {
-        printf("         -  none: a reserved pattern");
-    } else {
-        printf("         -  none: not in use");
-        if (pipe->num_sts_1 != 0)
-            printf(", whatever Num_STS_1 = %u says", pipe->num_sts_1);
-    }
-    printf("\n");
-}
-
-/* Prints the table of all pipes. */
-static void say_pipes(const uint8_t *sheet)
-{
-    struct pipe pipes[PIPES_MOST];
-    size_t n = sheet_pipes(sheet, pipes);
-    printf("  pipe  pattern  width in units  codewords  bytes each  streams in slot order\n");
-    for (size_t i = 0; i < n; i++)
-        say_pipe(&pipes[i], i + 1);
 }
 
 /* Prints what is in the first frame. The others have the same, with what counts counted on. */

@@ -4,52 +4,19 @@
 #include <stdlib.h>
 #include <string.h>
 
+#include "codeword.h"
 #include "opl_text.h"
 #include "say.h"
 #include "sheet.h"
 #include "starts.h"
 
-/* A lane is made of groups of five places; the six of the tail follow those of the infoword's bits. */
-enum { GROUP = 5, TAIL_GROUPS = 6 };
-
-/* The bits of a payload word that are coded. */
-enum { PAYLOAD_BITS = OPL_PAYLOAD_LANE / GROUP - TAIL_GROUPS };
-
-/* The code bits as they are received without noise: 1 for a zero and -1 for a one. */
-static void receive(const uint8_t *codeword, int8_t *values, size_t bits)
-{
-    for (size_t i = 0; i < bits; i++)
-        values[i] = codeword[i / 8] >> (7 - i % 8) & 1 ? -1 : 1;
-}
-
-/*
- * Takes an infoword from a lane: the X of data group i holds what was received for its bit i, and 0 where
- * the pattern does not send that. Returns how many were sent.
- */
-static size_t take_word(const int16_t *lane, size_t bits, uint8_t *word)
-{
-    size_t sent = 0;
-    for (size_t i = 0; i < bits; i++) {
-        word[i / 8] |= (lane[GROUP * i] < 0) << (7 - i % 8);
-        sent += lane[GROUP * i] != 0;
-    }
-    return sent;
-}
-
-/* Places a codeword of m bytes and takes its infoword, of n bytes; returns how many of its bits were sent. */
+/* Takes an infoword of n bytes from a codeword of m, and prints how many of its bits were sent; returns that. */
 static size_t place(const char *name, unsigned pattern, const uint8_t *codeword, size_t m, uint8_t *word,
                     size_t n)
 {
-    static int8_t values[8 * OPL_PAYLOAD_CODEWORD_MOST];
-    static int16_t lane[OPL_PAYLOAD_LANE];
-    size_t places = n == OPL_SIGNALLING_BYTES ? OPL_SIGNALLING_LANE : OPL_PAYLOAD_LANE;
-    size_t bits = places / GROUP - TAIL_GROUPS;
-    receive(codeword, values, 8 * m);
-    if (!accepted(opl_place(pattern, values, 8 * m, lane, places), "opl_place", name))
-        return 0;
-    memset(word, 0, n);
-    size_t sent = take_word(lane, bits, word);
-    printf("  %-*s placed: %zu of the word's %zu bits are in it\n", GIVEN, name, sent, bits);
+    size_t sent = take_infoword(name, pattern, codeword, m, word, n);
+    if (sent != 0)
+        printf("  %-*s placed: %zu of the word's %zu bits are in it\n", GIVEN, name, sent, coded_bits(n));
     return sent;
 }
 
@@ -78,7 +45,7 @@ static bool read_payload(const uint8_t *codeword, const struct pipe *pipe, const
     size_t sent = place("first payload codeword", pipe->pattern, codeword, m, word, sizeof word);
     if (sent == 0)
         return false;
-    if (sent < PAYLOAD_BITS) { /* so it is under patterns 7 to 12 (table 7) */
+    if (sent < coded_bits(sizeof word)) { /* so it is under patterns 7 to 12 (table 7) */
         printf("  %-*s not read: the other bits take a turbo decoder\n", GIVEN, "payload word");
         return true;
     }
@@ -92,16 +59,6 @@ static bool read_payload(const uint8_t *codeword, const struct pipe *pipe, const
     word[OPL_PAYLOAD_BYTES] ^= 0x01;
     return refused(opl_payload_read(word, sizeof word, header, sizeof header), OPL_CRC,
                    "  with a bit of its stream id inverted");
-}
-
-/* The first pipe that codewords were made for, or null. */
-static const struct pipe *first_sent(const uint8_t *sheet, struct pipe pipes[PIPES_MOST])
-{
-    size_t n = sheet_pipes(sheet, pipes);
-    for (size_t i = 0; i < n; i++)
-        if (pipe_codewords(&pipes[i]) != 0)
-            return &pipes[i];
-    return NULL;
 }
 
 /* Shows that a preamble with one bit off is none. */

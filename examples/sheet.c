@@ -92,6 +92,15 @@ uint8_t slot_stream(const struct pipe *pipe, size_t slot)
     return pipe->streams[STREAM_BYTES * i];
 }
 
+const struct pipe *first_sent(const uint8_t *sheet, struct pipe pipes[PIPES_MOST])
+{
+    size_t n = sheet_pipes(sheet, pipes);
+    for (size_t i = 0; i < n; i++)
+        if (pipe_codewords(&pipes[i]) != 0)
+            return &pipes[i];
+    return NULL;
+}
+
 unsigned sheet_frame_index(const uint8_t *sheet)
 {
     const uint8_t *field = sheet + FRAME_INDEX;

@@ -56,4 +56,7 @@ size_t pipe_codewords(const struct pipe *pipe);
  */
 uint8_t slot_stream(const struct pipe *pipe, size_t slot);
 
+/* The first of a sheet's pipes, which are found too, that codewords are made for, or null. */
+const struct pipe *first_sent(const uint8_t *sheet, struct pipe pipes[PIPES_MOST]);
+
 #endif
