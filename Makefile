@@ -6,9 +6,11 @@ archive := target/staticlib/libopl.a
 native := target/native/libopl.a
 headend := target/examples/headend
 listing := target/bin/listing
-# what the demonstration is run on, and the frames that it writes; `make demo sheet=FILE` takes another, and so on
+# what the demonstration is run on, and the frames that it writes; `make demo sheet=FILE` takes another, and so on;
+# `make demo stream=` sends no transport stream
 sheet := examples/sheets/story.sheet
 payload := README.md
+stream := examples/streams/story.ts
 frames := target/demo/frames.bin
 headers := $(wildcard include/*.h)
 # as opl.h has it, in three lines
@@ -43,6 +45,7 @@ need = $(if $(call missing,$(tools-$1)),$(error make $1 needs what is not instal
 
 help:
 	@echo 'make demo    build the library and the C head-end of examples/, and play some frames of a sheet'
+	@echo '             (sheet=FILE, payload=FILE, stream=FILE, frames=FILE: other files; stream=: no transport stream)'
 	@echo 'make test    prove everything, then test the library that was proved'
 	@echo 'make bench   compare the speed of each function with the second implementation (counts=1: count instructions)'
 	@echo 'make soak    fuzz the library for a minute (seconds=N for longer), then look for memory faults'
@@ -57,7 +60,7 @@ demo: need-demo $(headend) $(listing)
 	@echo 'the sheet, $(sheet)'
 	@listed=0; \
 	sh tools/x86-64.sh run $(listing) <'$(sheet)' || listed=$$?; \
-	sh tools/x86-64.sh run $(headend) '$(sheet)' '$(payload)' '$(frames)' && exit $$listed
+	sh tools/x86-64.sh run $(headend) '$(sheet)' '$(payload)' '$(frames)' $(if $(stream),'$(stream)') && exit $$listed
 
 test: need-test
 	@bash tools/test.sh

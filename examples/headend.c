@@ -1,14 +1,18 @@
 /*
  * A head-end in small: it plays some frames of a sheet, as a transmitter's C program does with the library,
- * finds them again in its own file by their preambles and reads one back, as a receiver and test equipment do.
- * `make demo` builds it and runs it.
+ * finds them again in its own file by their preambles, and reads back one of them and, of all, the stream that
+ * carries packets, as a receiver and test equipment do. `make demo` builds it and runs it.
  *
- *   headend SHEET PAYLOAD FRAMES
+ *   headend SHEET PAYLOAD FRAMES [STREAM [COUNT]]
  *
  *   SHEET     the file of the first frame's sheet; -: standard input
  *   PAYLOAD   the file that fills the payload words, 1,532 bytes each, with zeros after its end
  *   FRAMES    the file that the frames are written to, each as its preamble and signalling codeword, then
  *             the codewords of each pipe in use, pipe by pipe and slot by slot
+ *   STREAM    the file of a transport stream, which the last stream of the first pipe that is sent carries, eight
+ *             packets a payload word; null packets fill up the last of these, and dummy words follow. Without it
+ *             PAYLOAD fills the words of that stream too
+ *   COUNT     how many frames are played; 4 where it is not given
  *
  * It exits 0 only if every call answered as expected and gave what was expected, so not if the sheet is
  * refused. The frames lack what the library does not have yet: mixer, dispersers and collector (clauses
@@ -25,17 +29,15 @@
 #include "say.h"
 #include "sheet.h"
 #include "table.h"
+#include "transport.h"
 
 _Static_assert(START_BYTES == OPL_PREAMBLE_BYTES + OPL_SIGNALLING_CODEWORD_BYTES, "they fill both units");
 
 /* No sheet has more than 2,571 bytes, so one byte more shows that what was read is none. */
 enum { SHEET_BYTES = 2572 };
 
-/* The stream type of the payload words: transparent (clause 4.3.2). */
-enum { TRANSPARENT = 1 };
-
-/* The frames that are played: each preamble comes twice. */
-enum { FRAMES = 4 };
+/* The frames that are played if no other number is given: each preamble comes twice. And the most of them. */
+enum { FRAMES = 4, FRAMES_MOST = 10000 };
 
 /* The frame that is read back, counted from 0: the first that a receiver has whole if it is late for one. */
 enum { READ_BACK = 1 };
@@ -44,13 +46,15 @@ enum { READ_BACK = 1 };
 struct frames {
     const char *path, *payload_path;
     FILE *file, *payload;
+    size_t count;                        /* of frames that are to be played */
     size_t number;                       /* of the frame at hand, counted from 0 */
     uint8_t word[OPL_SIGNALLING_BYTES];  /* its signalling word */
     uint8_t start[START_BYTES];          /* its preamble and signalling codeword */
     size_t bytes;                        /* of its payload codewords */
-    size_t words;                        /* payload words in all frames */
+    size_t words;                        /* payload words of type 1 in all frames */
     size_t sent;                         /* bytes of the payload file in these */
     size_t filled;                       /* words that zeros fill up */
+    struct sent_stream *stream;          /* the stream that carries packets, or null */
     struct sent_frame read_back;         /* what is to be found in the frame that is read back */
 };
 
@@ -86,26 +90,42 @@ static bool take_payload(struct frames *frames, uint8_t *payload)
     if (ferror(frames->payload))
         return fail("%s: %s", frames->payload_path, strerror(errno));
     memset(payload + n, 0, OPL_PAYLOAD_BYTES - n);
-    if (frames->number == READ_BACK && frames->bytes == 0)
-        memcpy(frames->read_back.payload, payload, OPL_PAYLOAD_BYTES);
     frames->words++;
     frames->sent += n;
     frames->filled += n < OPL_PAYLOAD_BYTES;
     return true;
 }
 
+/* Makes a payload word of type 1 for a stream. */
+static bool payload_word(struct frames *frames, uint8_t id, uint8_t *word)
+{
+    uint8_t payload[OPL_PAYLOAD_BYTES];
+    return take_payload(frames, payload) &&
+           accepted(opl_payload_write(TRANSPARENT, id, 0, payload, sizeof payload, OPL_EMPTY, 0, word,
+                                      OPL_PAYLOAD_WORD_BYTES),
+                    "opl_payload_write", "a payload");
+}
+
+/* Makes the next payload word of a stream, and keeps the first one of the frame that is read back. */
+static bool next_word(struct frames *frames, uint8_t id, uint8_t *word)
+{
+    bool packets = frames->stream != NULL && frames->stream->id == id;
+    if (!(packets ? stream_word(frames->stream, word) : payload_word(frames, id, word)))
+        return false;
+    if (frames->number == READ_BACK && frames->bytes == 0)
+        memcpy(frames->read_back.word, word, OPL_PAYLOAD_WORD_BYTES);
+    return true;
+}
+
 /* Writes the codeword of one slot, which carries a payload word of the stream that has the slot. */
 static bool put_codeword(struct frames *frames, const struct pipe *pipe, size_t slot)
 {
-    uint8_t payload[OPL_PAYLOAD_BYTES], word[OPL_PAYLOAD_WORD_BYTES], codeword[OPL_PAYLOAD_CODEWORD_MOST];
-    uint8_t id = slot_stream(pipe, slot);
+    uint8_t word[OPL_PAYLOAD_WORD_BYTES], codeword[OPL_PAYLOAD_CODEWORD_MOST];
     size_t m = opl_codeword_bytes(pipe->pattern);
-    if (!take_payload(frames, payload))
+    if (!next_word(frames, slot_stream(pipe, slot), word))
         return false;
     frames->bytes += m;
-    return accepted(opl_payload_write(TRANSPARENT, id, 0, payload, sizeof payload, OPL_EMPTY, 0, word, sizeof word),
-                    "opl_payload_write", "a payload") &&
-           accepted(opl_encode(pipe->pattern, word, sizeof word, codeword, m), "opl_encode", "a payload word") &&
+    return accepted(opl_encode(pipe->pattern, word, sizeof word, codeword, m), "opl_encode", "a payload word") &&
            put(frames, codeword, m);
 }
 
@@ -169,17 +189,48 @@ static void say_frame(const struct frames *frames, const uint8_t *sheet)
     printf("..  %9zu\n", START_BYTES + frames->bytes);
 }
 
-static void say_sums(const struct frames *frames)
+/* Prints what was sent in words of type 1. */
+static void say_payload(const struct frames *frames)
 {
     const char *part = fgetc(frames->payload) == EOF ? "all" : "the first";
-    if (frames->words == 0)
-        printf("  no pipe is sent");
-    else
-        printf("  payload: %zu words of type 1 with %s %zu bytes of %s", frames->words, part, frames->sent,
-               frames->payload_path);
+    printf("  payload: %zu word%s of type 1 with %s %zu bytes of %s", frames->words, plural(frames->words), part,
+           frames->sent, frames->payload_path);
     if (frames->filled != 0)
-        printf("; zeros fill up %zu words", frames->filled);
+        printf("; zeros fill up %zu word%s", frames->filled, plural(frames->filled));
     printf("\n");
+}
+
+/* Prints what was sent in words of type 2, and what follows where the transport stream ends. */
+static void say_stream(const struct sent_stream *stream)
+{
+    const struct transport *source = &stream->source;
+    const char *part = source->taken == source->packets ? "all" : "the first";
+    if (stream->words == 0) {
+        printf("  stream %d: no slot in these frames, so no packet of %s is sent\n", stream->id, source->path);
+        return;
+    }
+    printf("  stream %d: %zu word%s of type 2 with %s %zu packet%s of %s", stream->id, stream->words,
+           plural(stream->words), part, source->taken, plural(source->taken), source->path);
+    if (source->nulls != 0)
+        printf(", %zu of them null", source->nulls);
+    printf("\n");
+    if (stream->filling != 0)
+        printf("    the last word filled up with %zu null packet%s\n", stream->filling, plural(stream->filling));
+    if (stream->dummies != 0)
+        printf("    then %zu dummy word%s of type 0, as no packet is left\n", stream->dummies,
+               plural(stream->dummies));
+}
+
+static void say_sums(const struct frames *frames)
+{
+    if (frames->bytes == 0) {
+        printf("  no pipe is sent\n");
+        return;
+    }
+    if (frames->words != 0)
+        say_payload(frames);
+    if (frames->stream != NULL)
+        say_stream(frames->stream);
 }
 
 /* Plays one frame of a sheet. */
@@ -208,7 +259,7 @@ static bool next_frame(struct frames *frames, uint8_t *sheet)
 static bool play_frames(struct frames *frames, uint8_t *sheet)
 {
     bool ok = play_frame(frames, sheet);
-    while (ok && frames->number + 1 < FRAMES)
+    while (ok && frames->number + 1 < frames->count)
         ok = next_frame(frames, sheet) && play_frame(frames, sheet);
     if (ok)
         say_sums(frames);
@@ -241,27 +292,64 @@ static bool play(struct frames *frames, uint8_t *sheet)
     return ok;
 }
 
-/* Finds the frames again, and reads one. */
+/* Finds the frames again, and reads one and the stream of packets. */
 static bool read_frames(const struct frames *frames)
 {
-    struct recording recording = {frames->path, FRAMES, START_BYTES + frames->bytes};
+    struct recording recording = {frames->path, frames->count, START_BYTES + frames->bytes, frames->stream};
     return read_back(&recording, READ_BACK, &frames->read_back);
+}
+
+/* Plays the frames and reads them, with the transport stream of a file. */
+static bool demonstrate_with(struct frames *frames, uint8_t *sheet, const char *path)
+{
+    struct pipe pipes[PIPES_MOST];
+    const struct pipe *pipe = first_sent(sheet, pipes);
+    struct sent_stream stream = {.id = pipe == NULL ? 0 : last_stream(pipe)};
+    if (!transport_open(&stream.source, path))
+        return false;
+    frames->stream = &stream;
+    bool ok = play(frames, sheet) && read_frames(frames);
+    frames->stream = NULL;
+    transport_close(&stream.source);
+    return ok;
+}
+
+/* Plays the frames and reads them; with no transport stream where the path of one is null. */
+static bool demonstrate(struct frames *frames, uint8_t *sheet, const char *path)
+{
+    return path == NULL ? play(frames, sheet) && read_frames(frames) : demonstrate_with(frames, sheet, path);
+}
+
+/* Loads the first frame's sheet, and makes the signalling word of it. */
+static bool load_sheet(struct frames *frames, const char *path, uint8_t sheet[SHEET_BYTES])
+{
+    size_t n;
+    return load(strcmp(path, "-") == 0 ? NULL : path, sheet, SHEET_BYTES, &n) &&
+           accepted(opl_signalling_write(sheet, n, frames->word, sizeof frames->word), "opl_signalling_write",
+                    path);
+}
+
+/* Reads how many frames are to be played: as many at least as the frame that is read back takes. */
+static bool read_count(const char *word, size_t *count)
+{
+    char *end;
+    unsigned long number = strtoul(word, &end, 10);
+    if (word[0] < '0' || word[0] > '9' || *end != '\0' || number <= READ_BACK || number > FRAMES_MOST)
+        return fail("COUNT is a number of frames from %d to %d, and not %s", READ_BACK + 1, FRAMES_MOST, word);
+    *count = number;
+    return true;
 }
 
 int main(int count, char **words)
 {
-    if (count != 4) {
-        fail("usage: headend SHEET PAYLOAD FRAMES");
+    if (count < 4 || count > 6) {
+        fail("usage: headend SHEET PAYLOAD FRAMES [STREAM [COUNT]]");
         return EXIT_FAILURE;
     }
-    const char *sheet_path = strcmp(words[1], "-") == 0 ? NULL : words[1];
-    struct frames frames = {.payload_path = words[2], .path = words[3]};
+    struct frames frames = {.payload_path = words[2], .path = words[3], .count = FRAMES};
     uint8_t sheet[SHEET_BYTES];
-    size_t n;
-    bool ok = load(sheet_path, sheet, sizeof sheet, &n) &&
-              accepted(opl_signalling_write(sheet, n, frames.word, sizeof frames.word), "opl_signalling_write",
-                       words[1]) &&
-              play(&frames, sheet) && read_frames(&frames);
+    bool ok = (count < 6 || read_count(words[5], &frames.count)) && load_sheet(&frames, words[1], sheet) &&
+              demonstrate(&frames, sheet, count < 5 ? NULL : words[4]);
     if (fflush(stdout) != 0 || ferror(stdout))
         ok = fail("standard output: %s", strerror(errno));
     return ok ? EXIT_SUCCESS : EXIT_FAILURE;

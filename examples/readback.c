@@ -6,6 +6,7 @@
 
 #include "codeword.h"
 #include "opl_text.h"
+#include "received.h"
 #include "say.h"
 #include "sheet.h"
 #include "starts.h"
@@ -38,7 +39,7 @@ static bool read_signalling(const uint8_t *codeword, const uint8_t *sheet, uint8
 }
 
 /* Reads the payload word of a pipe's first slot, and shows what a damaged copy is refused with. */
-static bool read_payload(const uint8_t *codeword, const struct pipe *pipe, const uint8_t *payload)
+static bool read_payload(const uint8_t *codeword, const struct pipe *pipe, const uint8_t *sent_word)
 {
     uint8_t word[OPL_PAYLOAD_WORD_BYTES], header[OPL_PAYLOAD_HEADER_BYTES];
     size_t m = opl_codeword_bytes(pipe->pattern);
@@ -52,9 +53,9 @@ static bool read_payload(const uint8_t *codeword, const struct pipe *pipe, const
     if (!accepted(opl_payload_read(word, sizeof word, header, sizeof header), "opl_payload_read",
                   "the payload word"))
         return false;
-    if (header[4] != slot_stream(pipe, 0) || header[5] != 1 || memcmp(word, payload, OPL_PAYLOAD_BYTES) != 0)
-        return fail("what was read back is another stream, type or payload");
-    printf("  %-*s accepted: stream %d, type %d, the payload that was sent\n", GIVEN, "payload word", header[4],
+    if (header[4] != slot_stream(pipe, 0) || memcmp(word, sent_word, sizeof word) != 0)
+        return fail("what was read back is another stream or word");
+    printf("  %-*s accepted: stream %d, type %d, the word that was sent\n", GIVEN, "payload word", header[4],
            header[5]);
     word[OPL_PAYLOAD_BYTES] ^= 0x01;
     return refused(opl_payload_read(word, sizeof word, header, sizeof header), OPL_CRC,
@@ -95,10 +96,10 @@ static bool read_frame(const uint8_t *frame, const struct sent_frame *sent)
     if (!damage_preamble(frame) || !read_signalling(frame + OPL_PREAMBLE_BYTES, sent->sheet, back))
         return false;
     const struct pipe *pipe = first_sent(back, pipes);
-    return pipe == NULL || read_payload(frame + START_BYTES, pipe, sent->payload);
+    return pipe == NULL || read_payload(frame + START_BYTES, pipe, sent->word);
 }
 
-/* Finds the frames in the n bytes that were recorded, and reads one. */
+/* Finds the frames in the n bytes that were recorded, reads one, and the stream of packets in all. */
 static bool read_recorded(const struct recording *recording, const uint8_t *bytes, size_t n, size_t number,
                           const struct sent_frame *sent)
 {
@@ -107,7 +108,9 @@ static bool read_recorded(const struct recording *recording, const uint8_t *byte
         return fail("%s: it has not as many bytes as were written", recording->path);
     printf("\nthe frames found by the form of their preambles, looked for at every byte\n");
     return find_frames(bytes, n, recording->frame_bytes, number, &at) && read_frame(bytes + at, sent) &&
-           refuse_preamble();
+           refuse_preamble() &&
+           (recording->stream == NULL ||
+            read_stream(bytes, recording->frames, recording->frame_bytes, recording->stream));
 }
 
 bool read_back(const struct recording *recording, size_t number, const struct sent_frame *sent)

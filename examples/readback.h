@@ -10,23 +10,28 @@
 #include <stdint.h>
 
 #include "opl.h"
+#include "transport.h"
 
-/* What was sent in a frame: its sheet, and the payload of its first payload word. */
+/* What was sent in a frame: its sheet, and its first payload word. */
 struct sent_frame {
     uint8_t sheet[OPL_SHEET_MOST];
-    uint8_t payload[OPL_PAYLOAD_BYTES];
+    uint8_t word[OPL_PAYLOAD_WORD_BYTES];
 };
 
-/* Where the frames are: their file, how many it has, and how many bytes each of them has. */
+/*
+ * Where the frames are: their file, how many it has, and how many bytes each of them has. And the stream that
+ * carries packets in them, or null.
+ */
 struct recording {
     const char *path;
     size_t frames, frame_bytes;
+    const struct sent_stream *stream;
 };
 
 /*
  * Finds the frames of a recording by their preambles, reads the signalling word and the first payload word of
- * one, counted from 0, and shows what a damaged copy of each is refused with. True if the frames are there and
- * this one holds what was sent.
+ * one, counted from 0, and shows what a damaged copy of each is refused with; then reads the stream of packets
+ * out of all frames. True if the frames are there and hold what was sent.
  */
 bool read_back(const struct recording *recording, size_t number, const struct sent_frame *sent);
 

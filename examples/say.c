@@ -32,6 +32,11 @@ bool load(const char *path, uint8_t *bytes, size_t room, size_t *n)
     return read;
 }
 
+const char *plural(size_t n)
+{
+    return n == 1 ? "" : "s";
+}
+
 void say_hex(const uint8_t *bytes, size_t n)
 {
     for (size_t i = 0; i < n; i++)

@@ -14,6 +14,9 @@ bool fail(const char *why, ...);
 /* Reads a file, or standard input where path is null, as far as there is room; n becomes the bytes read. */
 bool load(const char *path, uint8_t *bytes, size_t room, size_t *n);
 
+/* What the name of something ends with where there are n of it. */
+const char *plural(size_t n);
+
 /* Prints bytes in hex. */
 void say_hex(const uint8_t *bytes, size_t n);
 

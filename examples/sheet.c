@@ -101,6 +101,11 @@ const struct pipe *first_sent(const uint8_t *sheet, struct pipe pipes[PIPES_MOST
     return NULL;
 }
 
+uint8_t last_stream(const struct pipe *pipe)
+{
+    return pipe->streams[STREAM_BYTES * (pipe->count - 1)];
+}
+
 unsigned sheet_frame_index(const uint8_t *sheet)
 {
     const uint8_t *field = sheet + FRAME_INDEX;

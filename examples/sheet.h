@@ -59,4 +59,7 @@ uint8_t slot_stream(const struct pipe *pipe, size_t slot);
 /* The first of a sheet's pipes, which are found too, that codewords are made for, or null. */
 const struct pipe *first_sent(const uint8_t *sheet, struct pipe pipes[PIPES_MOST]);
 
+/* The id of the last of the streams that a pipe in use owns. */
+uint8_t last_stream(const struct pipe *pipe);
+
 #endif

@@ -1,0 +1,194 @@
+#include "received.h"
+
+#include <string.h>
+
+#include "codeword.h"
+#include "opl_text.h"
+#include "say.h"
+#include "sheet.h"
+
+/* What comes back of a stream. */
+struct received {
+    const struct sent_stream *sent;
+    struct transport due;                  /* the packets that were sent, read along */
+    size_t words, dummies;                 /* payload words of type 2, and of type 0 */
+    size_t unread;                         /* payload words of which bits are missing */
+    size_t nulls;                          /* null packets, which are dropped */
+    uint8_t first[OPL_PAYLOAD_WORD_BYTES]; /* the first word of type 2 */
+};
+
+/* The packets that a receiver keeps of those that were taken. */
+static size_t kept(const struct transport *transport)
+{
+    return transport->taken - transport->nulls;
+}
+
+/* Takes the next packet that was sent and is no null packet. */
+static bool take_due(struct received *received, uint8_t *packet)
+{
+    do {
+        if (received->due.taken == received->sent->source.taken)
+            return fail("stream %d gives more packets back than were sent", received->sent->id);
+        if (!transport_take(&received->due, packet))
+            return false;
+    } while (is_null_packet(packet));
+    return true;
+}
+
+/* Takes a packet that was received: drops null packets, and holds any other to what was sent. */
+static bool take_packet(struct received *received, const uint8_t *packet)
+{
+    uint8_t due[OPL_TS_PACKET_BYTES];
+    if (is_null_packet(packet)) {
+        received->nulls++;
+        return true;
+    }
+    if (!take_due(received, due))
+        return false;
+    return memcmp(packet, due, sizeof due) == 0 ||
+           fail("stream %d gives packet %zu of %s back as another", received->sent->id, received->due.taken - 1,
+                received->due.path);
+}
+
+/* Takes the packets of a word of type 2, whose parity is that. */
+static bool take_packets(struct received *received, const uint8_t *word, uint8_t parity)
+{
+    if (parity != OPL_PARITY_HOLDS)
+        return fail("stream %d: not all four parts of word %zu hold", received->sent->id, received->words);
+    if (received->words == 0)
+        memcpy(received->first, word, sizeof received->first);
+    received->words++;
+    for (size_t i = 0; i < OPL_TS_PACKETS; i++)
+        if (!take_packet(received, word + OPL_TS_PACKET_BYTES * i))
+            return false;
+    return true;
+}
+
+/* Takes a payload word of the stream, by its header. */
+static bool take_word(struct received *received, const uint8_t *word)
+{
+    uint8_t header[OPL_PAYLOAD_HEADER_BYTES];
+    if (!accepted(opl_payload_read(word, OPL_PAYLOAD_WORD_BYTES, header, sizeof header), "opl_payload_read",
+                  "a payload word of the stream"))
+        return false;
+    uint8_t id = header[4], type = header[5], parity = header[7];
+    if (id != received->sent->id || type == TRANSPARENT)
+        return fail("a slot of stream %d has a word of stream %d, type %d", received->sent->id, id, type);
+    if (type == TRANSPORT)
+        return take_packets(received, word, parity);
+    received->dummies++;
+    return true;
+}
+
+/* Takes a codeword of m bytes that has a payload word of the stream. */
+static bool take_codeword(struct received *received, unsigned pattern, const uint8_t *codeword, size_t m)
+{
+    uint8_t word[OPL_PAYLOAD_WORD_BYTES];
+    size_t sent = take_infoword("a codeword of the stream", pattern, codeword, m, word, sizeof word);
+    if (sent == 0)
+        return false;
+    if (sent == coded_bits(sizeof word))
+        return take_word(received, word);
+    received->unread++;
+    return true;
+}
+
+/* Takes what a pipe has of the stream; its codewords become those of the next pipe. */
+static bool take_pipe(struct received *received, const struct pipe *pipe, const uint8_t **codewords)
+{
+    size_t slots = pipe_codewords(pipe), m = opl_codeword_bytes(pipe->pattern);
+    for (size_t slot = 0; slot < slots; slot++) {
+        bool own = slot_stream(pipe, slot) == received->sent->id;
+        if (own && !take_codeword(received, pipe->pattern, *codewords, m))
+            return false;
+        *codewords += m;
+    }
+    return true;
+}
+
+/* Takes what a frame has of the stream. Where that is, the frame's signalling word says. */
+static bool take_frame(struct received *received, const uint8_t *frame)
+{
+    uint8_t word[OPL_SIGNALLING_BYTES], sheet[OPL_SHEET_ROOM];
+    struct pipe pipes[PIPES_MOST];
+    const uint8_t *codewords = frame + START_BYTES;
+    if (take_infoword("a signalling codeword", 0, frame + OPL_PREAMBLE_BYTES, OPL_SIGNALLING_CODEWORD_BYTES, word,
+                      sizeof word) == 0 ||
+        !accepted(opl_signalling_read(word, sizeof word, sheet, sizeof sheet), "opl_signalling_read",
+                  "a signalling word"))
+        return false;
+    size_t n = sheet_pipes(sheet, pipes);
+    for (size_t i = 0; i < n; i++)
+        if (!take_pipe(received, &pipes[i], &codewords))
+            return false;
+    return true;
+}
+
+static bool is_all(const struct received *received)
+{
+    const struct sent_stream *sent = received->sent;
+    return (received->words == sent->words && received->dummies == sent->dummies &&
+            kept(&received->due) == kept(&sent->source) &&
+            received->nulls == sent->source.nulls + sent->filling) ||
+           fail("stream %d does not give as many words and packets back as were sent", sent->id);
+}
+
+/* Shows what is said of a damaged part: it does not hold, and the others do. */
+static bool damage_part(uint8_t *word)
+{
+    enum { PACKET = 3, PART = PACKET / 2 };
+    uint8_t header[OPL_PAYLOAD_HEADER_BYTES];
+    word[OPL_TS_PACKET_BYTES * PACKET + 100] ^= 0x10;
+    if (!accepted(opl_payload_read(word, OPL_PAYLOAD_WORD_BYTES, header, sizeof header), "opl_payload_read",
+                  "a word with a damaged packet"))
+        return false;
+    if (header[7] != (OPL_PARITY_HOLDS ^ 1 << PART))
+        return fail("a bit of packet %d is inverted, and the parity is %d", PACKET, header[7]);
+    printf("  %-*s part %d (packets %d and %d) does not hold, the other three do\n", GIVEN,
+           "  with a bit of packet 3 inverted", PART, 2 * PART, 2 * PART + 1);
+    return true;
+}
+
+static void say_words(const struct received *received)
+{
+    printf("  %-*s accepted: %zu of type 2 (packets)", GIVEN, "payload words", received->words);
+    if (received->dummies != 0)
+        printf(", %zu of type 0 (dummies)", received->dummies);
+    printf("\n  %-*s all four parts of each word hold\n", GIVEN, "parity of the packets");
+}
+
+static bool say_received(struct received *received)
+{
+    say_words(received);
+    if (!damage_part(received->first))
+        return false;
+    printf("  %-*s %zu given back, all as they were sent; %zu null packet%s dropped\n", GIVEN, "packets",
+           kept(&received->due), received->nulls, plural(received->nulls));
+    return true;
+}
+
+/* Takes the stream from all frames. */
+static bool take_frames(struct received *received, const uint8_t *frames, size_t count, size_t frame_bytes)
+{
+    for (size_t i = 0; i < count; i++)
+        if (!take_frame(received, frames + frame_bytes * i))
+            return false;
+    if (received->unread == 0)
+        return is_all(received) && say_received(received);
+    printf("  %-*s not read: their pattern does not send all bits, which takes a turbo decoder\n", GIVEN,
+           "payload words");
+    return true;
+}
+
+bool read_stream(const uint8_t *frames, size_t count, size_t frame_bytes, const struct sent_stream *sent)
+{
+    struct received received = {.sent = sent};
+    if (sent->words == 0) /* it has no slot in these frames */
+        return true;
+    if (!transport_open(&received.due, sent->source.path))
+        return false;
+    printf("\nstream %d read back from all %zu frames\n", sent->id, count);
+    bool ok = take_frames(&received, frames, count, frame_bytes);
+    transport_close(&received.due);
+    return ok;
+}
