@@ -23,7 +23,7 @@ fn taken() -> &'static [Taken] {
     static TAKEN: OnceLock<Vec<Taken>> = OnceLock::new();
     TAKEN.get_or_init(|| {
         let program = made("stack");
-        build(&program, &file("compare/stack.c"), "c11");
+        build(&program, &[file("compare/stack.c")], "c11");
         let printed = run(&program, &sheets());
         println!("{printed}");
         printed.lines().map(line).collect()

@@ -27,7 +27,7 @@ fn printed() -> &'static str {
         fs::write(&cpp, include).expect("the C++ program is put there");
         let [in_c, in_cpp] =
             [("text_c", c, "c99"), ("text_cpp", cpp, "c++11")].map(|(name, source, standard)| {
-                build(&made(name), &source, standard);
+                build(&made(name), &[source], standard);
                 run(&made(name), &[&headers])
             });
         assert_eq!(in_c, in_cpp);

@@ -20,13 +20,13 @@ pub fn made(name: &str) -> PathBuf {
     Path::new(env!("CARGO_TARGET_TMPDIR")).join(name)
 }
 
-/// Builds a program of a file, by this standard of its language.
-pub fn build(program: &Path, source: &Path, standard: &str) {
+/// Builds a program of these files, by this standard of their language.
+pub fn build(program: &Path, sources: &[PathBuf], standard: &str) {
     let mut x86_64 = x86_64("build", program);
     x86_64.env("OPL_STANDARD", format!("-std={standard}"));
     // where build.rs writes calls.h
     x86_64.env("CPATH", env!("OUT_DIR"));
-    printed(x86_64.arg(source));
+    printed(x86_64.args(sources));
 }
 
 /// Runs a program with these words, and gives what it prints.
@@ -34,7 +34,8 @@ pub fn run(program: &Path, words: &[impl AsRef<OsStr>]) -> String {
     printed(x86_64("run", program).args(words))
 }
 
-fn x86_64(task: &str, program: &Path) -> Command {
+/// The command that builds or runs a program, still without its further words.
+pub fn x86_64(task: &str, program: &Path) -> Command {
     let mut command = Command::new("sh");
     command.arg(file("tools/x86-64.sh")).arg(task).arg(program);
     command

@@ -1,0 +1,293 @@
+//! The head-end of examples/ over transport streams: what it sends of them, that it reads it back, and which files it
+//! refuses.
+
+mod program;
+
+use compare::inputs::{plain, plain_pipe};
+use compare::rng::Rng;
+use compare::second::signalling::sheet_of;
+use compare::stream::{pid_of, stream, MINUTE, NULL_PID, PACKET};
+use program::{build, figure, file, made, run, x86_64};
+use std::ffi::OsString;
+use std::fs;
+use std::path::{Path, PathBuf};
+use std::sync::OnceLock;
+
+/// The head-end, of all files that the Makefile builds it of.
+fn headend() -> &'static Path {
+    static BUILT: OnceLock<PathBuf> = OnceLock::new();
+    BUILT.get_or_init(|| {
+        let program = made("headend");
+        let listed = fs::read_dir(file("examples")).expect("examples/ is there");
+        let paths = listed.map(|entry| entry.expect("it is listed").path());
+        let is_source = |path: &PathBuf| path.extension().is_some_and(|suffix| suffix == "c");
+        build(
+            &program,
+            &paths.filter(is_source).collect::<Vec<_>>(),
+            "c11",
+        );
+        program
+    })
+}
+
+/// What a run is made of. Its files have its name.
+struct Run {
+    name: String,
+    sheet: Vec<u8>,
+    stream: Vec<u8>,
+    frames: usize,
+}
+
+impl Run {
+    fn path(&self, suffix: &str) -> PathBuf {
+        made(&format!("{}.{suffix}", self.name))
+    }
+
+    /// The words that the head-end is given. The sheet and the stream are put where they say.
+    fn words(&self) -> [OsString; 5] {
+        let [sheet, stream] = ["sheet", "ts"].map(|suffix| self.path(suffix));
+        fs::write(&sheet, &self.sheet).expect("the sheet is put there");
+        fs::write(&stream, &self.stream).expect("the stream is put there");
+        let frames = self.path("frames").into_os_string();
+        let payload = file("README.md").into_os_string();
+        let count = OsString::from(self.frames.to_string());
+        [sheet.into(), payload, frames, stream.into(), count]
+    }
+
+    fn printed(&self) -> String {
+        run(headend(), &self.words())
+    }
+
+    /// What it says where it refuses to run; it has then written no frame.
+    fn refused(&self) -> String {
+        let words = self.words();
+        let _ = fs::remove_file(self.path("frames"));
+        let output = x86_64("run", headend()).args(words).output();
+        let output = output.expect("a shell starts");
+        assert_eq!(output.status.code(), Some(1));
+        assert!(output.stdout.is_empty() && !self.path("frames").exists());
+        String::from_utf8(output.stderr).expect("it says text")
+    }
+}
+
+/// What a stream comes to in the slots that it has.
+struct Sums {
+    packets: usize,
+    sent: usize,
+    nulls: usize,
+    words: usize,
+    filling: usize,
+    dummies: usize,
+}
+
+impl Sums {
+    fn of(stream: &[u8], slots: usize) -> Sums {
+        let in_word = figure("OPL_TS_PACKETS");
+        let packets = stream.len() / PACKET;
+        let sent = packets.min(in_word * slots);
+        let words = sent.div_ceil(in_word);
+        let is_null = |packet: &&[u8]| pid_of(packet) == NULL_PID;
+        Sums {
+            packets,
+            sent,
+            nulls: stream.chunks(PACKET).take(sent).filter(is_null).count(),
+            words,
+            filling: words * in_word - sent,
+            dummies: slots - words,
+        }
+    }
+
+    /// What is said of it when the frames are written.
+    fn written(&self, run: &Run, id: u8) -> String {
+        let (all, path) = (self.sent == self.packets, run.path("ts"));
+        let mut text = format!(
+            "\n  stream {id}: {} of type 2 with {} {} of {}",
+            several(self.words, "word"),
+            if all { "all" } else { "the first" },
+            several(self.sent, "packet"),
+            path.display()
+        );
+        if self.nulls > 0 {
+            text += &format!(", {} of them null", self.nulls);
+        }
+        if self.filling > 0 {
+            let filling = several(self.filling, "null packet");
+            text += &format!("\n    the last word filled up with {filling}");
+        }
+        if self.dummies > 0 {
+            let dummies = several(self.dummies, "dummy word");
+            text += &format!("\n    then {dummies} of type 0, as no packet is left");
+        }
+        text + "\n\n"
+    }
+
+    /// What is said of it when the frames are read, at the end.
+    fn read(&self, run: &Run, id: u8) -> String {
+        let mut words = format!("{} of type 2 (packets)", self.words);
+        if self.dummies > 0 {
+            words += &format!(", {} of type 0 (dummies)", self.dummies);
+        }
+        format!(
+            "
+stream {id} read back from all {} frames
+  payload words                            accepted: {words}
+  parity of the packets                    all four parts of each word hold
+    with a bit of packet 3 inverted        part 1 (packets 2 and 3) does not hold, the other three do
+  packets                                  {} given back, all as they were sent; {} dropped
+",
+            run.frames,
+            self.sent - self.nulls,
+            several(self.nulls + self.filling, "null packet")
+        )
+    }
+}
+
+fn several(n: usize, name: &str) -> String {
+    format!("{n} {name}{}", if n == 1 { "" } else { "s" })
+}
+
+/// Runs it, with so many slots for the stream.
+#[track_caller]
+fn holds(run: &Run, id: u8, slots: usize) -> String {
+    let printed = run.printed();
+    let sums = Sums::of(&run.stream, slots);
+    let [written, read] = [sums.written(run, id), sums.read(run, id)];
+    assert!(printed.contains(&written), "{printed}\nlacks{written}");
+    assert!(printed.ends_with(&read), "{printed}\ndoes not end{read}");
+    printed
+}
+
+/// A sheet of one pipe with one stream, 12, and no tail.
+fn sheet(pattern: u32, width: u32) -> Vec<u8> {
+    let mut pipe = plain_pipe(12..13);
+    pipe.fields.punct_pat_id = pattern;
+    pipe.fields.pipe_width_cus = width;
+    sheet_of(&plain(vec![pipe], None))
+}
+
+/// The demonstration's sheet. In four frames its stream 2, the last of the first pipe, has eight slots.
+fn story() -> Vec<u8> {
+    fs::read(file("examples/sheets/story.sheet")).expect("the sheet is there")
+}
+
+/// Under pattern 25 a codeword has seven capacity units, so that a frame has 18 slots.
+#[test]
+fn a_minute_of_a_stream_comes_back() {
+    let run = Run {
+        name: "minute".to_string(),
+        sheet: sheet(25, 7 * 18),
+        stream: stream(&mut Rng::new(730), MINUTE),
+        frames: 139,
+    };
+    let printed = holds(&run, 12, 18 * 139);
+    assert!(printed.contains("accepted: 2494 of type 2 (packets), 8 of type 0 (dummies)\n"));
+    assert!(printed.contains("stream 12: 2494 words of type 2 with all 19946 packets of "));
+}
+
+/// A stream that ends in the first word, at its end, behind it, in the last word and at the end of that; and longer
+/// ones, of which the first packets are sent.
+#[test]
+fn a_stream_of_any_length_comes_back() {
+    let mut rng = Rng::new(731);
+    for count in [1, 7, 8, 9, 63, 64, 65, 200] {
+        let run = Run {
+            name: format!("{count}_packets"),
+            sheet: story(),
+            stream: stream(&mut rng, count),
+            frames: 4,
+        };
+        holds(&run, 2, 8);
+    }
+}
+
+/// Patterns 7 to 12 leave out bits of the word itself.
+#[test]
+fn what_takes_a_decoder_is_not_read() {
+    let run = Run {
+        name: "pattern_7".to_string(),
+        sheet: sheet(7, 16),
+        stream: stream(&mut Rng::new(732), 20),
+        frames: 4,
+    };
+    let printed = run.printed();
+    let written = Sums::of(&run.stream, 4).written(&run, 12);
+    assert!(printed.contains(&written), "{printed}");
+    let last = "  payload words                            not read: \
+        their pattern does not send all bits, which takes a turbo decoder\n";
+    assert!(printed.ends_with(last), "{printed}");
+}
+
+#[test]
+fn without_a_pipe_no_packet_is_sent() {
+    let run = Run {
+        name: "no_pipe".to_string(),
+        sheet: sheet_of(&plain(vec![], None)),
+        stream: stream(&mut Rng::new(733), 20),
+        frames: 2,
+    };
+    let printed = run.printed();
+    assert!(printed.contains("\n  no pipe is sent\n"), "{printed}");
+    assert!(!printed.contains("\nstream "), "{printed}");
+}
+
+#[test]
+fn what_is_no_transport_stream_is_refused() {
+    let whole = stream(&mut Rng::new(734), 20);
+    let mut unsynced = whole.clone();
+    unsynced[12 * PACKET] ^= 0x01;
+    let longer: Vec<u8> = whole
+        .chunks(PACKET)
+        .flat_map(|packet| [packet, &[0; 16]].concat())
+        .collect();
+    let cut = |n: usize| whole[..n].to_vec();
+    for (name, stream, why) in [
+        ("empty", vec![], "it has no packet"),
+        (
+            "cut",
+            cut(13 * PACKET - 1),
+            "packet 12, at byte 2256, is cut off: the file ends after 187 of its 188 bytes",
+        ),
+        (
+            "short",
+            cut(1),
+            "packet 0, at byte 0, is cut off: the file ends after 1 of its 188 bytes",
+        ),
+        (
+            "unsynced",
+            unsynced,
+            "packet 12, at byte 2256, begins with 46 and not with the sync byte 47",
+        ),
+        (
+            "longer_packets",
+            longer,
+            "packet 1, at byte 188, begins with 00 and not with the sync byte 47",
+        ),
+    ] {
+        let (name, sheet) = (name.to_string(), story());
+        let run = Run {
+            name,
+            sheet,
+            stream,
+            frames: 4,
+        };
+        let path = run.path("ts");
+        assert_eq!(
+            run.refused(),
+            format!("headend: {}: {why}\n", path.display())
+        );
+    }
+}
+
+#[test]
+fn a_wrong_number_of_frames_is_refused() {
+    for frames in [0, 1, 10_001] {
+        let run = Run {
+            name: format!("{frames}_frames"),
+            sheet: story(),
+            stream: stream(&mut Rng::new(735), 20),
+            frames,
+        };
+        let why = "COUNT is a number of frames from 2 to 10000, and not";
+        assert_eq!(run.refused(), format!("headend: {why} {frames}\n"));
+    }
+}
