@@ -96,6 +96,13 @@ unpack-drop n w h =
     ap (λ (x : List ℕ). drop (8 * n) (unpack x)) (sym (take-append-drop n w)) ∙ ap (drop (8 * n)) (unpack-append (take n w) (drop n w))
     ∙ drop-at (unpack (take n w)) (unpack (drop n w)) (8 * n) (unpack-length (take n w) ∙ ap (λ (k : ℕ). 8 * k) (length-take-le n w h))
 
+-- the bits of the first bytes
+pub unpack-take : (n : ℕ) (w : List ℕ) → n ≤ length w → take (8 * n) (unpack w) ≡ unpack (take n w)
+unpack-take n w h =
+    let l : length (unpack (take n w)) ≡ 8 * n = unpack-length (take n w) ∙ ap (λ (x : ℕ). 8 * x) (length-take-le n w h) in
+    ap (λ (x : List ℕ). take (8 * n) (unpack x)) (sym (take-append-drop n w)) ∙ ap (take (8 * n)) (unpack-append (take n w) (drop n w))
+    ∙ take-at (unpack (take n w)) (unpack (drop n w)) (8 * n) l
+
 pub pack-length : (n : ℕ) (l : List ℕ) → length (pack n l) ≡ n
 unfolding pack
 pack-length zero l = refl

@@ -42,6 +42,14 @@ pack-bits n v =
     (ap (λ (x : List ℕ). num (take 8 x)) e ∙ ap num (take-at h (bits (8 * n) v) 8 l) ∙ num-bits-mod 8 (v / 2 ^ (8 * n)))
     (ap (λ (x : List ℕ). pack n (drop 8 x)) e ∙ ap (pack n) (drop-at h (bits (8 * n) v) 8 l))
 
+-- a 16-bit number in two bytes
+pub pack-16 : (v : ℕ) → pack 2 (bits 16 v) ≡ v / 256 % 256 ∷ v % 256 ∷ []
+unfolding pack
+pack-16 v = pack-bits 1 v ∙ ap (λ (l : List ℕ). v / 256 % 256 ∷ l) (pack-bits 0 v ∙ ap (λ (x : ℕ). x % 256 ∷ []) one)
+  where
+    one : v / 1 ≡ v
+    one = omega arith
+
 -- a 32-bit number in four bytes
 pub pack-32 : (v : ℕ) → pack 4 (bits 32 v) ≡ v / 0x1000000 % 256 ∷ v / 0x10000 % 256 ∷ v / 0x100 % 256 ∷ v % 256 ∷ []
 unfolding pack

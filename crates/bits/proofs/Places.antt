@@ -51,6 +51,12 @@ number-append f i m (suc n) =
     let q : number f i m * 2 ^ suc n ≡ number f i m * 2 ^ n * 2 = ap (λ (x : ℕ). number f i m * x) p ∙ sym (mul-assoc (number f i m) (2 ^ n) 2) in
     omega (arith, e, a, q, number-append f i m n)
 
+-- zeros spell 0
+pub number-zeros : (i n : ℕ) → number (λ k. 0) i n ≡ 0
+unfolding number
+number-zeros i zero = refl
+number-zeros i (suc n) = ap (λ (x : ℕ). x * 2 + 0) (number-zeros i n)
+
 -- a bit of a running number
 pub number-bit : (f : ℕ → ℕ) → ((k : ℕ) → f k < 2) → (i b r : ℕ) → number f i (b + 1 + r) / 2 ^ r % 2 ≡ f (i + b)
 number-bit f bit i b r =

@@ -38,15 +38,17 @@ unfolding clocks
 clocks-lt n g r [] p h k = k
 clocks-lt n g r (b ∷ l) p h k = clocks-lt n g (clock (2 ^ (n - 1)) g r b) l p h (clock-lt n g r b p h)
 
-clocks-snoc : (top g r : ℕ) (l : List ℕ) (b : ℕ) → clocks top g r (l ++ (b ∷ [])) ≡ clock top g (clocks top g r l) b
+-- the bits of two lists, one behind the other
+pub clocks-append : (top g r : ℕ) (l m : List ℕ) → clocks top g r (l ++ m) ≡ clocks top g (clocks top g r l) m
 unfolding clocks
-clocks-snoc top g r [] b = refl
-clocks-snoc top g r (a ∷ l) b = clocks-snoc top g (clock top g r a) l b
+clocks-append top g r [] m = refl
+clocks-append top g r (b ∷ l) m = clocks-append top g (clock top g r b) l m
 
 -- one bit more of a run
 pub clocks-more : (top g r : ℕ) (f : ℕ → ℕ) (at i : ℕ) → clocks top g r (tab f at (i + 1)) ≡ clock top g (clocks top g r (tab f at i)) (f (at + i))
+unfolding clocks
 clocks-more top g r f at i =
-    ap (clocks top g r) (ap (tab f at) (add-one i) ∙ tab-snoc f at i) ∙ clocks-snoc top g r (tab f at i) (f (at + i))
+    ap (clocks top g r) (ap (tab f at) (add-one i) ∙ tab-snoc f at i) ∙ clocks-append top g r (tab f at i) (f (at + i) ∷ [])
 
 -- the CRC fits its width
 pub crc-lt : (n g : ℕ) (l : List ℕ) → crcOf n g l < 2 ^ n

@@ -9,13 +9,13 @@ use native.Mathlib.Decide.{ℕ-discrete}
 use native.Mathlib.Omega.{arith}
 use borrow.Author.Tests.{eqb-true}
 use lib.ListN.{length, take, drop, replicate, take-append-drop, length-drop}
-use lib.Seq.{take-at, drop-at, take-add, drop-drop, length-take-le}
+use lib.Seq.{drop-at, take-add, drop-drop, length-take-le}
 use Rattle.ground.specs.Table.{tab}
 use Rattle.ground.proofs.Table.{tab-cong, tab-shift}
 use Rattle.bits.specs.Lists.{bits, num, unpack, pack, Below}
 use Rattle.bits.specs.Places.{bitAt, number, fieldAt}
 use Rattle.bits.proofs.Below.{below-append, below-take, below-drop, below-replicate}
-use Rattle.bits.proofs.Lists.{bits-below, bits-num, unpack-length, unpack-below, unpack-append, unpack-drop, unpack-inj, pack-below}
+use Rattle.bits.proofs.Lists.{unpack-take, bits-below, bits-num, unpack-length, unpack-below, unpack-drop, unpack-inj, pack-below}
 use Rattle.bits.proofs.Places.{number-append, field-is}
 use Rattle.bits.proofs.Joined.{number-num}
 use Rattle.parity.specs.Part.{partOf, partsOf, heldOf}
@@ -26,13 +26,6 @@ use Rattle.infoword.specs.Word.{frontBytes, filled, fields49, parityPart
 use Rattle.infoword.proofs.Ending.{rfu-2, rfu-other, ended, apart, covered-fields, closed-fields}
 use Rattle.infoword.proofs.Sealing.{header-below, closed-below, parts-front}
 use Rattle.infoword.proofs.Written.{front-2, front-other, parity-2, parity-other, parity-below, word-unpacked}
-
--- the bits of the first bytes
-take-unpack : (n : ℕ) (w : List ℕ) → n ≤ length w → take (8 * n) (unpack w) ≡ unpack (take n w)
-take-unpack n w h =
-    let l : length (unpack (take n w)) ≡ 8 * n = unpack-length (take n w) ∙ ap (λ (x : ℕ). 8 * x) (length-take-le n w h) in
-    ap (λ (x : List ℕ). take (8 * n) (unpack x)) (sym (take-append-drop n w)) ∙ ap (take (8 * n)) (unpack-append (take n w) (drop n w))
-    ∙ take-at (unpack (take n w)) (unpack (drop n w)) (8 * n) l
 
 -- a word of bytes stays one
 pub word-below : (kind id : ℕ) (p : List ℕ) → Below 256 p → Below 256 (wordOf kind id p)
@@ -157,7 +150,7 @@ module _ (w : List ℕ) (s : Sound w) where
       let n : kindOf w ≡ 2 → ⊥ = λ e. omega (arith, k, e) in
       let r : rfuBits (kindOf w) ≡ 4 = rfu-other (kindOf w) n in
       whole 1532 (sym (front-other (kindOf w) n)) (omega arith)
-      (ap (λ (x : ℕ). take (12260 - x) (unpack w)) r ∙ take-unpack 1532 w (omega (arith, s .word-is))
+      (ap (λ (x : ℕ). take (12260 - x) (unpack w)) r ∙ unpack-take 1532 w (omega (arith, s .word-is))
       ∙ sym (ap (λ (x : List ℕ). unpack (take 1532 w) ++ x) (parity-other (kindOf w) (take 1532 w) n) ∙ append-nil (unpack (take 1532 w))))
 
   pub word-again-2 : kindOf w ≡ 2 → heldOf w ≡ 15 → w ≡ wordOf (kindOf w) (idOf w) (take 1504 w)
@@ -168,4 +161,4 @@ module _ (w : List ℕ) (s : Sound w) where
       ap (λ (x : List ℕ). fields49 (partsOf x)) (sym (take-append-drop 1504 w)) ∙ ap fields49 (parts-front (take 1504 w) (drop 1504 w) l) ∙ sym (parity-2 (kindOf w) (take 1504 w) k) in
       whole 1504 (sym (front-2 (kindOf w) k)) (omega arith)
       (ap (λ (x : ℕ). take (12260 - x) (unpack w)) r ∙ take-add 12032 196 (unpack w)
-      ∙ ap₂ (λ (x y : List ℕ). x ++ y) (take-unpack 1504 w (omega (arith, s .word-is))) (parts-held w (s .word-is) h ∙ p))
+      ∙ ap₂ (λ (x y : List ℕ). x ++ y) (unpack-take 1504 w (omega (arith, s .word-is))) (parts-held w (s .word-is) h ∙ p))

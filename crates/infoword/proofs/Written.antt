@@ -1,6 +1,6 @@
 -- Laws of a word that is written: its length, its fields, its packet and its parity parts.
 -- Assumes nothing.
-use Prim.Native.Nat.{ℕ, zero, suc, _+_, _-_, _*_, _/_, _%_, _^_, _≤_, _<_}
+use Prim.Native.Nat.{ℕ, _+_, _-_, _*_, _/_, _%_, _^_, _≤_, _<_}
 use mathlib.Core.Bool.{Bool, true, false}
 use mathlib.Core.Path.{_≡_, refl, sym, ap, ap₂, _∙_, subst}
 use mathlib.Core.List.{List, [], _++_, append-assoc}
@@ -19,7 +19,7 @@ use Rattle.bits.specs.Lists.{bits, num, unpack, pack, Below}
 use Rattle.bits.specs.Places.{bitAt, number, fieldAt}
 use Rattle.bits.proofs.Below.{below-append}
 use Rattle.bits.proofs.Lists.{bits-length, bits-below, num-bits, unpack-length, unpack-append, unpack-pack, pack-length}
-use Rattle.bits.proofs.Places.{number-append, number-cong, field-is, bit-front}
+use Rattle.bits.proofs.Places.{number-append, number-cong, number-zeros, field-is, bit-front}
 use Rattle.bits.proofs.Joined.{run-below, number-num}
 use Rattle.parity.specs.Part.{messageAt, partOf, partsOf, heldOf}
 use Rattle.parity.proofs.Laws.{part-lt}
@@ -226,12 +226,6 @@ module _ (id : ℕ) (p : List ℕ) (n : length p ≡ 1504) where
   pub held-back : heldOf (wordOf 2 id p) ≡ 15
   held-back = held-all (wordOf 2 id p) part-there
 
--- zeros spell 0
-zeros-number : (i n : ℕ) → number (λ k. 0) i n ≡ 0
-unfolding number
-zeros-number i zero = refl
-zeros-number i (suc n) = ap (λ (x : ℕ). x * 2 + 0) (zeros-number i n)
-
 -- of types 0 and 2 there are 32 zeros before STS_ID: RFU of type 2, and of type 0 the end of the zeros and RFU
 pub zeros-back : (kind id : ℕ) (p : List ℕ) → kind ≤ 2 → length p ≡ packetBytes kind → (kind ≡ 1 → ⊥) → fieldAt (wordOf kind id p) 12228 32 ≡ 0
 unfolding rfuOf wordOf bitAt
@@ -247,7 +241,7 @@ zeros-back kind id p k n one =
           let dummy-kind : kind ≡ 0 = omega (arith, k, one, e) in
           let none : length p ≡ 0 = n ∙ ap packetBytes dummy-kind in
           field-is w 12228 32 (omega arith) ∙ number-append (bitAt w) 12228 28 4
-          ∙ ap₂ (λ (x y : ℕ). x * 16 + y) (number-cong (bitAt w) (λ k. 0) 12228 28 (λ k l. dummy (front-other kind e) none k l) ∙ zeros-number 12228 28) (sym (field-is w 12256 4 (omega arith)) ∙ four))
+          ∙ ap₂ (λ (x y : ℕ). x * 16 + y) (number-cong (bitAt w) (λ k. 0) 12228 28 (λ k l. dummy (front-other kind e) none k l) ∙ number-zeros 12228 28) (sym (field-is w 12256 4 (omega arith)) ∙ four))
     ]
   where
     dummy : frontBytes kind ≡ 1532 → length p ≡ 0 → (k : ℕ) → k < 28 → bitAt (wordOf kind id p) (12228 + k) ≡ 0

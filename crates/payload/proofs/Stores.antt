@@ -8,7 +8,7 @@ use lib.ListN.{length, take, drop, length-append}
 use lib.Seq.{take-all, take-at, length-take-le}
 use Rattle.bits.specs.Lists.{bits, pack}
 use Rattle.bits.proofs.Lists.{pack-length}
-use Rattle.bits.proofs.Numbers.{pack-32, pack-bits}
+use Rattle.bits.proofs.Numbers.{pack-16, pack-32}
 use Rattle.payload.specs.Answers.{headerBytes}
 use Rattle.fields.specs.declared.Header.{Header}
 
@@ -32,14 +32,6 @@ sixteen l l1 l2 l3 l4 a b c d n1 n2 n3 n4 e1 e2 e3 e4 =
     ∙ ap (λ (x : List ℕ). x ++ pack 4 (bits 32 d)) (put-at l2 l3 (pack 4 (bits 32 c)) 8 (four-long c) (omega arith) e3)
     ∙ ap (λ (x : List ℕ). x ++ pack 4 (bits 32 c) ++ pack 4 (bits 32 d)) (put-at l1 l2 (pack 4 (bits 32 b)) 4 (four-long b) (omega arith) e2)
     ∙ ap (λ (x : List ℕ). x ++ pack 4 (bits 32 b) ++ pack 4 (bits 32 c) ++ pack 4 (bits 32 d)) (put-at l l1 (pack 4 (bits 32 a)) 0 (four-long a) (omega arith) e1)
-
--- a 16-bit number in two bytes
-pack-16 : (v : ℕ) → pack 2 (bits 16 v) ≡ v / 256 % 256 ∷ v % 256 ∷ []
-unfolding pack
-pack-16 v = pack-bits 1 v ∙ ap (λ (l : List ℕ). v / 256 % 256 ∷ l) (pack-bits 0 v ∙ ap (λ (x : ℕ). x % 256 ∷ []) one)
-  where
-    one : v / 1 ≡ v
-    one = omega arith
 
 -- the header's fields in them
 pub sixteen-are : (h : Header) → h .id < 256 → h .kind < 256 → h .version < 256 → h .parity < 256 → h .address < 65536

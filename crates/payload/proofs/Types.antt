@@ -1,10 +1,10 @@
 -- One bit of a written word's header that is changed, be it of the stream type, has the word refused: the CRCs over 18 and over 46 bits do
 -- not agree where RFU is zero.
 -- Assumes nothing.
-use Prim.Native.Nat.{ℕ, zero, _+_, _-_, _*_, _≤_, _<_}
+use Prim.Native.Nat.{ℕ, _+_, _-_, _*_, _≤_, _<_}
 use mathlib.Core.Bool.{Bool, not}
 use mathlib.Core.Path.{_≡_, refl, sym, ap, ap₂, _∙_, subst}
-use mathlib.Core.List.{List, [], _∷_, _++_, append-assoc}
+use mathlib.Core.List.{List, _++_, append-assoc}
 use native.Mathlib.Decide.{decLt, ℕ-discrete}
 use native.Mathlib.Omega.{arith}
 use borrow.Author.Tests.{eq-eqb}
@@ -19,7 +19,7 @@ use Rattle.bits.specs.Lists.{bits}
 use Rattle.bits.specs.Places.{bitAt, number, fieldAt}
 use Rattle.bits.proofs.Places.{bit-lt, number-cong, field-is, field-lt}
 use Rattle.crc.specs.Crc.{clock, clocks, crcOf}
-use Rattle.crc.proofs.Laws.{clocks-lt}
+use Rattle.crc.proofs.Laws.{clocks-lt, clocks-append}
 use Rattle.infoword.specs.Suffix.{idOf, kindOf, versionOf, crcFieldOf, rfuBits, rfuOf, covered, coveredOf, headerCrc, header}
 use Rattle.infoword.proofs.Ending.{rfu-2, rfu-other, covered-fields}
 use Rattle.infoword.proofs.Closing.{covered-other}
@@ -52,12 +52,6 @@ apart id = differ (behind (before 0xED id) 2) (before 0x6A id)
 all-apart : T (allBelow apart 256)
 unfolding apart before behind differ clocks clock bits
 all-apart = tt
-
--- clocked on
-clocks-append : (top g r : ℕ) (l m : List ℕ) → clocks top g r (l ++ m) ≡ clocks top g (clocks top g r l) m
-unfolding clocks
-clocks-append top g r [] m = refl
-clocks-append top g r (b ∷ l) m = clocks-append top g (clock top g r b) l m
 
 register : (n : ℕ) (id kind : ℕ) → headerCrc (header (bits n 0) id kind 0) ≡ 255 - behind (before (clocks 128 0x2F 255 (bits n 0)) id) kind
 unfolding headerCrc crcOf header before behind
