@@ -91,17 +91,22 @@ unfolding unpack
 unpack-append [] b = refl
 unpack-append (x ∷ a) b = rw (unpack-append a b) (sym (mathlib.Core.List.append-assoc (bits 8 x) (unpack a) (unpack b)))
 
+-- the bits of the first bytes, and of those behind them
+unpack-cut : (n : ℕ) (w : List ℕ) → n ≤ length w → (unpack w ≡ unpack (take n w) ++ unpack (drop n w)) × (length (unpack (take n w)) ≡ 8 * n)
+unpack-cut n w h = (
+  ap unpack (sym (take-append-drop n w)) ∙ unpack-append (take n w) (drop n w),
+  unpack-length (take n w) ∙ ap (λ (k : ℕ). 8 * k) (length-take-le n w h),
+)
+
 pub unpack-drop : (n : ℕ) (w : List ℕ) → n ≤ length w → drop (8 * n) (unpack w) ≡ unpack (drop n w)
 unpack-drop n w h =
-    ap (λ (x : List ℕ). drop (8 * n) (unpack x)) (sym (take-append-drop n w)) ∙ ap (drop (8 * n)) (unpack-append (take n w) (drop n w))
-    ∙ drop-at (unpack (take n w)) (unpack (drop n w)) (8 * n) (unpack-length (take n w) ∙ ap (λ (k : ℕ). 8 * k) (length-take-le n w h))
+    let c = unpack-cut n w h in
+    ap (drop (8 * n)) (c .0) ∙ drop-at (unpack (take n w)) (unpack (drop n w)) (8 * n) (c .1)
 
--- the bits of the first bytes
 pub unpack-take : (n : ℕ) (w : List ℕ) → n ≤ length w → take (8 * n) (unpack w) ≡ unpack (take n w)
 unpack-take n w h =
-    let l : length (unpack (take n w)) ≡ 8 * n = unpack-length (take n w) ∙ ap (λ (x : ℕ). 8 * x) (length-take-le n w h) in
-    ap (λ (x : List ℕ). take (8 * n) (unpack x)) (sym (take-append-drop n w)) ∙ ap (take (8 * n)) (unpack-append (take n w) (drop n w))
-    ∙ take-at (unpack (take n w)) (unpack (drop n w)) (8 * n) l
+    let c = unpack-cut n w h in
+    ap (take (8 * n)) (c .0) ∙ take-at (unpack (take n w)) (unpack (drop n w)) (8 * n) (c .1)
 
 pub pack-length : (n : ℕ) (l : List ℕ) → length (pack n l) ≡ n
 unfolding pack

@@ -55,7 +55,7 @@ module _ (κs : Lfts 3) (a : ArgsD opl-payload-write.signature κs) where
 module _ (κs : Lfts 2) (a : ArgsD opl-payload-read.signature κs) where
   pub opl-payload-read-agrees : (r r′ : ResD opl-payload-read.signature κs) (s s′ : AtExit (endedOf 2 opl-payload-read-kinds.ps opl-payload-read-kinds.r) κs) →
       opl-payload-read-reads.Post κs a r s → opl-payload-read-reads.Post κs a r′ s′ → (r ≡ r′) × (now (s .1 .0) ≡ now (s′ .1 .0))
-  opl-payload-read-agrees r r′ s s′ p q = agree (p .0) (q .0)
+  opl-payload-read-agrees r r′ s s′ p q = agree p q
 
 module _ (κs : Lfts 2) (a : ArgsD opl-signalling-write.signature κs) where
   pub opl-signalling-write-agrees : (r r′ : ResD opl-signalling-write.signature κs) (s s′ : AtExit (endedOf 2 opl-signalling-write-kinds.ps opl-signalling-write-kinds.r) κs) →

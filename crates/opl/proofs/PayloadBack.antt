@@ -49,14 +49,14 @@ module _ (κs : Lfts 3) (a : ArgsD opl-payload-write.signature κs) (r : ResD op
       → (n ≡ 0) × (now (t .1 .0) ≡ headerBytes (writtenHeader (a .0) (a .1 .0)))
   opl-payload-back κt b n t e l p =
       header-after (a .0) (a .1 .0) (a .1 .1 .0) (now (a .1 .1 .1 .0)) (now (a .1 .1 .1 .1 .0)) (now (a .1 .1 .1 .1 .1 .0)) r left (did .0) zero (did .1)
-      (now (b .0)) (now (b .1 .0)) (now (t .1 .0)) n e l (p .0)
+      (now (b .0)) (now (b .1 .0)) (now (t .1 .0)) n e l p
 
   -- of a word with one other header bit, be it of the stream type, opl_payload_read with 16 bytes answers 5, and nothing is touched
   pub opl-refused-where-sent-damaged : (κt : Lfts 2) (b : ArgsD opl-payload-read.signature κt) (n : ResD opl-payload-read.signature κt)
       (t : AtExit (endedOf 2 opl-payload-read-kinds.ps opl-payload-read-kinds.r) κt) (i : ℕ)
       → OneBit left (now (b .0)) i → length (now (b .1 .0)) ≡ 16 → opl-payload-read-reads.Post κt b n t → (n ≡ 5) × (now (t .1 .0) ≡ now (b .1 .0))
   opl-refused-where-sent-damaged κt b n t i d l p =
-      agree (p .0) (into-refused (now (b .0)) (now (b .1 .0)) l 5
+      agree p (into-refused (now (b .0)) (now (b .1 .0)) l 5
       (written-damaged (a .0) (a .1 .0) (a .1 .1 .0) (now (a .1 .1 .1 .0)) (now (a .1 .1 .1 .1 .0)) (now (a .1 .1 .1 .1 .1 .0)) r left (did .0) zero (did .1) (now (b .0)) i d)
       (omega arith))
 
@@ -85,13 +85,13 @@ module _ (κs : Lfts 2) (a : ArgsD opl-payload-read.signature κs) (r : ResD opl
     pub opl-refused-where-damaged : (i : ℕ) → OneBit (now (a .0)) (now (b .0)) i → covered (kindOf (now (b .0))) ≡ covered (kindOf (now (a .0)))
         → (n ≡ 5) × (now (t .1 .0) ≡ now (b .1 .0))
     opl-refused-where-damaged i d span =
-        into-damaged (now (a .0)) (now (a .1 .0)) r header (did .0) zero (now (b .0)) (now (b .1 .0)) n (now (t .1 .0)) i d span room (p .0)
+        into-damaged (now (a .0)) (now (a .1 .0)) r header did zero (now (b .0)) (now (b .1 .0)) n (now (t .1 .0)) i d span room p
 
     -- of a word with an odd number of other bits within part k, which held: just part k is reported as not holding
     pub opl-part-seen : getD header 5 0 ≡ 2 → (k : ℕ) → getD header 7 0 / 2 ^ k % 2 ≡ 1 → OddIn (now (a .0)) (now (b .0)) k → PartSeenIn header n (now (t .1 .0)) k
     opl-part-seen two k set d =
-        into-part-seen (now (a .0)) (now (a .1 .0)) r header (did .0) zero two (now (b .0)) (now (b .1 .0)) n (now (t .1 .0)) k set d room (p .0)
+        into-part-seen (now (a .0)) (now (a .1 .0)) r header did zero two (now (b .0)) (now (b .1 .0)) n (now (t .1 .0)) k set d room p
 
   -- bit k of byte 7 is set exactly where generator and parity bit of part k both agree
   pub opl-parity-means : getD header 5 0 ≡ 2 → (k : ℕ) → k < 4 → (getD header 7 0 / 2 ^ k % 2 ≡ 1) ↔ Sound (received (now (a .0)) k)
-  opl-parity-means two = into-means (now (a .0)) (now (a .1 .0)) r header (did .0) zero two
+  opl-parity-means two = into-means (now (a .0)) (now (a .1 .0)) r header did zero two

@@ -68,7 +68,7 @@ pub extern "C" fn opl_payload_write(
 // The header of a payload word into 16 bytes.
 #[no_mangle]
 pub extern "C" fn opl_payload_read(word: &[u8], header: &mut [u8]) -> u8
-    ensures { λ r. ⌜ Is (readInto (now (word .entry)) (now (header .entry))) r (now (header .exit)) × Below 256 (now (word .entry)) ⌝ }
+    ensures { λ r. ⌜ Is (readInto (now (word .entry)) (now (header .entry))) r (now (header .exit)) ⌝ }
 {
     payload::read_into(word, header)
 }

@@ -31,4 +31,4 @@ module _ (κs : Lfts 1) (a : ArgsD payload-of.signature κs) where
 module _ (κs : Lfts 2) (a : ArgsD read-into.signature κs) where
   pub read-into-agrees : (r r′ : ResD read-into.signature κs) (s s′ : AtExit (endedOf 2 read-into-kinds.ps read-into-kinds.r) κs) →
       read-into-reads.Post κs a r s → read-into-reads.Post κs a r′ s′ → (r ≡ r′) × (now (s .1 .0) ≡ now (s′ .1 .0))
-  read-into-agrees r r′ s s′ p q = agree (p .0) (q .0)
+  read-into-agrees r r′ s s′ p q = agree p q

@@ -2,7 +2,7 @@
 -- has just that part reported as not holding.
 -- Assumes nothing.
 use Prim.Native.Nat.{ℕ, _+_, _-_, _*_, _/_, _%_, _^_, _≤_, _<_}
-use mathlib.Core.Bool.{Bool, true, false}
+use mathlib.Core.Bool.{true}
 use mathlib.Core.Path.{_≡_, refl, sym, ap, ap₂, _∙_, subst}
 use mathlib.Core.List.{List, _++_}
 use native.Mathlib.Decide.{ℕ-discrete}
@@ -19,7 +19,7 @@ use Rattle.crc.proofs.Changes.{crc-changes}
 use Rattle.parity.specs.Part.{parityHolds, received, heldOf}
 use Rattle.parity.proofs.Sound.{odd-seen}
 use Rattle.parity.proofs.Received.{received-bits}
-use Rattle.parity.proofs.Which.{held-set, held-true, held-false}
+use Rattle.parity.proofs.Which.{held-set, held-less}
 use Rattle.infoword.specs.Suffix.{kindOf, covered, coveredOf, headerCrc, rfuBits, rfuOf}
 use Rattle.infoword.proofs.Closing.{covered-2, covered-other, covered-run}
 use Rattle.infoword.proofs.Ending.{rfu-2}
@@ -108,7 +108,7 @@ module _ (w v : List ℕ) (k : ℕ) (d : OddIn w v k) where
   same-behind = same-field w v 12228 behind
 
   -- and in no other part
-  pub same-part : (j : ℕ) → j < 4 → (j ≡ k → ⊥) → received v j ≡ received w j
+  same-part : (j : ℕ) → j < 4 → (j ≡ k → ⊥) → received v j ≡ received w j
   unfolding received
   same-part j h n =
       let p = d .part in
@@ -123,20 +123,11 @@ module _ (w v : List ℕ) (k : ℕ) (d : OddIn w v k) where
       close j k i l a b = omega arith
 
   -- so that just that part is seen not to hold
-  pub part-fails : heldOf w / 2 ^ k % 2 ≡ 1 → heldOf v / 2 ^ k % 2 ≡ 0
+  pub part-fails : heldOf w / 2 ^ k % 2 ≡ 1 → heldOf v + 2 ^ k ≡ heldOf w
   part-fails h =
-      held-false v k (d .part)
-      (odd-seen (received w k) (received v k) (received-bits w k) (received-bits v k) (held-set w k (d .part) h) (d .odd))
-
-  pub others-stay : (j : ℕ) → j < 4 → (j ≡ k → ⊥) → heldOf v / 2 ^ j % 2 ≡ heldOf w / 2 ^ j % 2
-  others-stay j h n = go (parityHolds (received w j)) refl
-    where
-      e : parityHolds (received v j) ≡ parityHolds (received w j)
-      e = ap parityHolds (same-part j h n)
-
-      go : (b : Bool) → parityHolds (received w j) ≡ b → heldOf v / 2 ^ j % 2 ≡ heldOf w / 2 ^ j % 2
-      go true t = held-true v j h (e ∙ t) ∙ sym (held-true w j h t)
-      go false t = held-false v j h (e ∙ t) ∙ sym (held-false w j h t)
+      let t : parityHolds (received w k) ≡ true = held-set w k (d .part) h in
+      held-less w v k (d .part) t (odd-seen (received w k) (received v k) (received-bits w k) (received-bits v k) t (d .odd))
+      (λ j l n. ap parityHolds (same-part j l n))
 
   -- a word of type 2 that was accepted still is
   pub still-readable : Readable w → kindOf w ≡ 2 → Readable v

@@ -1,6 +1,6 @@
 -- The theorems about a word that was read, for a header in 16 bytes, over the definitions.
 -- Assumes nothing.
-use Prim.Native.Nat.{ℕ, _/_, _%_, _^_, _<_}
+use Prim.Native.Nat.{ℕ, _+_, _/_, _%_, _^_, _<_}
 use mathlib.Core.Path.{_≡_, refl, sym, ap, _∙_}
 use mathlib.Core.Logic.{_↔_}
 use mathlib.Core.Bool.{not}
@@ -26,7 +26,7 @@ use Rattle.payload.specs.Damage.{OneBit, OddIn, PartSeenIn}
 use Rattle.fields.specs.declared.Header.{Header}
 use Rattle.fields.proofs.Faults.{Readable, read-0, readable}
 use Rattle.payload.proofs.Answers.{into-refused, into-done}
-use Rattle.payload.proofs.Damage.{damaged, same-behind, part-fails, others-stay, still-readable, same-rfu}
+use Rattle.payload.proofs.Damage.{damaged, same-behind, part-fails, still-readable, same-rfu}
 
 -- the type and the parity stand in bytes 5 and 7
 kind-byte : (h : Header) → getD (headerBytes h) 5 0 ≡ h .kind
@@ -82,7 +82,7 @@ module _ (w out : List ℕ) (n : ℕ) (m : List ℕ) (o : Is (readInto w out) n 
         let e : getD m 7 0 / 2 ^ k % 2 ≡ heldOf w / 2 ^ k % 2 = ap (λ (x : ℕ). x / 2 ^ k % 2) parity-left in
         (λ p. t .0 (held-set w k l (sym e ∙ p)), λ p. e ∙ held-true w k l (t .1 p))
 
-    -- an odd number of other bits of part k, which holds: the header differs in byte 7 alone, and there in bit k, which is 0
+    -- an odd number of other bits of part k, which holds: the header differs in byte 7 alone, which is less the bit of part k
     module _ (v out' : List ℕ) (r : ℕ) (m' : List ℕ) (k : ℕ) (set : getD m 7 0 / 2 ^ k % 2 ≡ 1) (d : OddIn w v k) (l : length out' ≡ 16) (q : Is (readInto v out') r m') where
       kind-v : kindOf v ≡ kindOf w
       kind-v = same-behind w v k d 12268 3 (omega arith) (omega arith)
@@ -102,6 +102,5 @@ module _ (w out : List ℕ) (n : ℕ) (m : List ℕ) (o : Is (readInto w out) n 
             ∙ same-before (headerOf v) (headerOf w) (same-rfu w v k d of-2) (same-behind w v k d 12260 8 (omega arith) (omega arith)) kind-v (same-behind w v k d 12271 3 (omega arith) (omega arith))
             ∙ ap (take 7) (sym header-left);
         behind = ap (drop 8) (read-v .1) ∙ same-behind-it (headerOf v) (headerOf w) refl ∙ ap (drop 8) (sym header-left);
-        fails = ap (λ (x : ℕ). x / 2 ^ k % 2) parity-v ∙ part-fails w v k d (sym (ap (λ (x : ℕ). x / 2 ^ k % 2) parity-left) ∙ set);
-        others = λ j h t. ap (λ (x : ℕ). x / 2 ^ j % 2) parity-v ∙ others-stay w v k d j h t ∙ sym (ap (λ (x : ℕ). x / 2 ^ j % 2) parity-left);
+        parity = ap (λ (x : ℕ). x + 2 ^ k) parity-v ∙ part-fails w v k d (sym (ap (λ (x : ℕ). x / 2 ^ k % 2) parity-left) ∙ set) ∙ sym parity-left;
       }

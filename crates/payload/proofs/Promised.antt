@@ -1,7 +1,7 @@
 -- Theorems about the functions' own promises: what is read after a write, what is written after a reading, and what is read of a word with a
 -- damaged header or a damaged part. That a stream id and the bytes of a word are bytes, the promises hand out.
 -- Assumes nothing.
-use Prim.Native.Nat.{ℕ, _/_, _%_, _^_, _<_}
+use Prim.Native.Nat.{ℕ, _+_, _/_, _%_, _^_, _<_}
 use mathlib.Core.Path.{_≡_, refl, sym, ap, _∙_}
 use mathlib.Core.Logic.{_↔_}
 use mathlib.Core.List.{List}
@@ -33,7 +33,7 @@ use Rattle.payload.specs.declared.Reading.the-variants.{Accepted, Refuse
 use Rattle.fields.proofs.Faults.{Readable, read-0, readable}
 use Rattle.payload.proofs.Answers.{tells-refusal, tells-header, header-told, shows, told-inj}
 use Rattle.payload.proofs.WaysBack.{header-told-after, header-after, shown-after, write-again}
-use Rattle.payload.proofs.Damage.{damaged, same-behind, part-fails, others-stay, still-readable, same-rfu}
+use Rattle.payload.proofs.Damage.{damaged, same-behind, part-fails, still-readable, same-rfu}
 use Rattle.payload.proofs.Types.{written-damaged}
 use Rattle.payload.proofs.read as read
 use Rattle.payload.proofs.read.Kinds as read-kinds
@@ -78,7 +78,7 @@ module _ (κs : Lfts 3) (a : ArgsD write.signature κs) (r : ResD write.signatur
       → (n ≡ 0) × (now (t .1 .0) ≡ headerBytes (writtenHeader kind id))
   read-into-after-write κt b n t e l p =
       header-after kind id (a .1 .1 .0) (now (a .1 .1 .1 .0)) (now (a .1 .1 .1 .1 .0)) (now (a .1 .1 .1 .1 .1 .0)) r left (did .0) zero (did .1)
-      (now (b .0)) (now (b .1 .0)) (now (t .1 .0)) n e l (p .0)
+      (now (b .0)) (now (b .1 .0)) (now (t .1 .0)) n e l p
 
   -- a word of 1,536 bytes that differs from it in one of the header bits that the CRC covers alone, be it of the stream type, is refused with 5
   pub refused-where-sent-damaged : (κt : Lfts 1) (b : ArgsD read.signature κt) (k : ResD read.signature κt) (t : AtExit (endedOf 1 read-kinds.ps read-kinds.r) κt) (i : ℕ)
@@ -164,6 +164,6 @@ module _ (κs : Lfts 1) (a : ArgsD read.signature κs) (r : ResD read.signature 
           id = same-behind word v k d 12260 8 (omega arith) (omega arith) ∙ sym (ap (λ (x : Header). x .id) (facts .1));
           kind = kind-v ∙ sym kind-is;
           version = same-behind word v k d 12271 3 (omega arith) (omega arith) ∙ sym (ap (λ (x : Header). x .version) (facts .1));
-          fails = ap (λ (x : ℕ). x / 2 ^ k % 2) held-v ∙ part-fails word v k d (sym (ap (λ (x : ℕ). x / 2 ^ k % 2) parity-is) ∙ set);
-          others = λ j l n. ap (λ (x : ℕ). x / 2 ^ j % 2) held-v ∙ others-stay word v k d j l n ∙ sym (ap (λ (x : ℕ). x / 2 ^ j % 2) parity-is);
+          parity = ap (λ (x : ℕ). x + 2 ^ k) held-v ∙ part-fails word v k d (sym (ap (λ (x : ℕ). x / 2 ^ k % 2) parity-is) ∙ set) ∙ sym parity-is;
+          address = sym (ap (λ (x : Header). x .address) (facts .1));
         }

@@ -1,6 +1,6 @@
 -- Words that differ from another in their header, or within one part: what the theorems about damage speak of.
 -- Assumes nothing.
-use Prim.Native.Nat.{ℕ, _+_, _-_, _*_, _/_, _%_, _^_, _≤_, _<_}
+use Prim.Native.Nat.{ℕ, _+_, _-_, _*_, _%_, _^_, _≤_, _<_}
 use mathlib.Core.Path.{_≡_}
 use mathlib.Core.List.{List}
 use lib.ListN.{length, getD, take, drop}
@@ -31,7 +31,7 @@ pub record OddIn (w v : List ℕ) (k : ℕ) : Type 0 where
   pub same : (i : ℕ) → Outside k i → bitAt v i ≡ bitAt w i
   pub odd : distance (received w k) (received v k) % 2 ≡ 1
 
--- the answer is a header with the fields of h, and of its parity bits just that of part k is 0, while the others are those of h
+-- the answer is a header with the fields of h, and the parity of h less the bit of part k
 pub record PartSeen (h : Header) (r : Reading) (k : ℕ) : Type 0 where
   pub now : Header
   pub read : r ≡ Accepted now
@@ -39,13 +39,12 @@ pub record PartSeen (h : Header) (r : Reading) (k : ℕ) : Type 0 where
   pub id : now .id ≡ h .id
   pub kind : now .kind ≡ h .kind
   pub version : now .version ≡ h .version
-  pub fails : now .parity / 2 ^ k % 2 ≡ 0
-  pub others : (j : ℕ) → j < 4 → (j ≡ k → ⊥) → now .parity / 2 ^ j % 2 ≡ h .parity / 2 ^ j % 2
+  pub parity : now .parity + 2 ^ k ≡ h .parity
+  pub address : now .address ≡ h .address
 
--- the same in 16 bytes: the answer is 0, and the bytes m' are those of m but for byte 7, of which just bit k is another, and 0
+-- the same in 16 bytes: the answer is 0, and the bytes m' are those of m, with byte 7 less the bit of part k
 pub record PartSeenIn (m : List ℕ) (r : ℕ) (m' : List ℕ) (k : ℕ) : Type 0 where
   pub answer : r ≡ 0
   pub before : take 7 m' ≡ take 7 m
+  pub parity : getD m' 7 0 + 2 ^ k ≡ getD m 7 0
   pub behind : drop 8 m' ≡ drop 8 m
-  pub fails : getD m' 7 0 / 2 ^ k % 2 ≡ 0
-  pub others : (j : ℕ) → j < 4 → (j ≡ k → ⊥) → getD m' 7 0 / 2 ^ j % 2 ≡ getD m 7 0 / 2 ^ j % 2

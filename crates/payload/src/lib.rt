@@ -79,7 +79,7 @@ fn put_header(out: &mut [u8], h: Header)
 
 // Reads the header of a payload word into 16 bytes and returns 0; a refusal touches nothing.
 pub fn read_into(word: &[u8], header: &mut [u8]) -> u8
-    ensures { λ r. ⌜ Is (readInto (now (word .entry)) (now (header .entry))) r (now (header .exit)) × Below 256 (now (word .entry)) ⌝ }
+    ensures { λ r. ⌜ Is (readInto (now (word .entry)) (now (header .entry))) r (now (header .exit)) ⌝ }
 {
     if header.len() != HEADER {
         return LENGTH_WRONG;

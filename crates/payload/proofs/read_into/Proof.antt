@@ -3,7 +3,6 @@ use Prim.Native.Nat.{ℕ}
 use mathlib.Core.Path.{sym, ap, _∙_}
 use mathlib.Core.List.{List}
 use native.Mathlib.Omega.{arith}
-use Rattle.bits.proofs.Below.{below-of}
 use Rattle.payload.specs.Answers.{told, headerBytes}
 use Rattle.payload.proofs.Answers.{refusal-told, header-told, into-room, into-refused, into-done}
 use borrow.Author.Needs.{needs}
@@ -17,7 +16,7 @@ use Rattle.payload.proofs.read.Reads as read-reads
 returns : tie.Need-returns
 returns c =
     let s = c .before .before .before in
-    (into-room (s .args .word .now) (s .args .header .now) (λ e. omega (arith, c .if1 .taken)), below-of 256 (s .args .word .now) (λ i. omega (arith, c .before .before .shared-slice-known .given i)))
+    into-room (s .args .word .now) (s .args .header .now) (λ e. omega (arith, c .if1 .taken))
 
 read-requires : tie.Need-read-requires
 read-requires c κs = search needs
@@ -37,7 +36,7 @@ returns-2 c =
     let k = c .before .before .before in
     let a = k .before .before .before .before .args in
     let f = refusal-told (a .word .now) (g .0 .0) (ap told (sym (g .1)) ∙ k .read .ensures .0) in
-    (into-refused (a .word .now) (a .header .now) (omega (arith, k .before .if1 .left)) (g .0 .0) (f .0) (f .1), k .read .ensures .1)
+    into-refused (a .word .now) (a .header .now) (omega (arith, k .before .if1 .left)) (g .0 .0) (f .0) (f .1)
 
 same-length : tie.Need-same-length
 same-length c = search needs
@@ -51,7 +50,7 @@ returns-3 c =
     let a = k .before .before .before .before .args in
     let w : List ℕ = a .word .now in
     let f = header-told w (g .0 .0) (ap told (sym (g .1)) ∙ k .read .ensures .0) in
-    (into-done w (a .header .now) (omega (arith, k .before .if1 .left)) (f .0) (p .put-header .last .0) (p .put-header .ensures ∙ ap headerBytes (f .1)), k .read .ensures .1)
+    into-done w (a .header .now) (omega (arith, k .before .if1 .left)) (f .0) (p .put-header .last .0) (p .put-header .ensures ∙ ap headerBytes (f .1))
 
 pub read-into-spec : {M : Type 1} → statement M
 read-into-spec =
