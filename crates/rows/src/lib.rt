@@ -14,11 +14,12 @@ fn wide(x: u8) -> u64
     x as u64
 }
 
-// Five bits, reversed.
+// Five bits, reversed (clause 4.4.4): bit k, which is v / 2^k less twice v / 2^(k + 1), goes to the place 4 - k.
 fn reversed(x: usize) -> usize
     ensures { λ r. ⌜ r ≡ reversed x ⌝ }
 {
-    x % 2 * 16 + x / 2 % 2 * 8 + x / 4 % 2 * 4 + x / 8 % 2 * 2 + x / 16 % 2
+    let v = x % 32;
+    16 * v - 24 * (v / 2) - 12 * (v / 4) - 6 * (v / 8) - 3 * (v / 16)
 }
 
 // The pair at the place t of the row j, by an entry of table 10. The counter's low numbers that end in two ones give addresses behind the block and are passed over.

@@ -1,5 +1,12 @@
--- `rows::reversed` meets its contract. Assumes nothing.
-use mathlib.Core.Path.{refl}
+-- `rows::reversed` meets its contract: the formula is the rule at each of the 32 numbers, and the rule looks at no bit above the five. Assumes nothing.
+use Prim.Native.Nat.{ℕ, _-_, _*_, _/_, _%_, _<_}
+use mathlib.Core.Path.{_≡_, _∙_}
+use mathlib.Core.Bool.{Bool}
+use native.Mathlib.Omega.{arith}
+use lib.Dec.{T, eqb, eqb→eq}
+use lib.Pow.{field, mod-mod-pow}
+use Rattle.ground.specs.Table.{allBelow}
+use Rattle.ground.proofs.Table.{at-all}
 use Rattle.order.specs.Order.{reversed}
 use borrow.Author.Needs.{needs}
 use Rattle.rows.proofs.reversed.Statement.{statement}
@@ -7,33 +14,55 @@ use Rattle.rows.proofs.reversed.Tie as tie
 use Rattle.rows.proofs.reversed.Reads as reads
 use Rattle.rows.proofs.reversed.Lts as lts
 
+-- the formula of the code
+abbrev formula : ℕ → ℕ
+formula v = 16 * v - 24 * (v / 2) - 12 * (v / 4) - 6 * (v / 8) - 3 * (v / 16)
+
+reverses : ℕ → Bool
+reverses v = eqb (formula v) (reversed v)
+
+all-reverse : T (allBelow reverses 32)
+unfolding reverses reversed
+all-reverse = tt
+
+formula-is : (v : ℕ) → v < 32 → formula v ≡ reversed v
+unfolding reverses
+formula-is v h = eqb→eq (formula v) (reversed v) (at-all reverses 32 all-reverse v h)
+
+low-five : (x : ℕ) → reversed (x % 32) ≡ reversed x
+unfolding reversed
+low-five x =
+    rw (mod-mod-pow x 4 1, field x 4 1, mod-mod-pow (x / 2) 3 1, field x 3 2, mod-mod-pow (x / 4) 2 1, field x 2 3, mod-mod-pow (x / 8) 1 1, field x 1 4, mod-mod-pow (x / 16) 0 1)
+
 mul-result : tie.Need-mul-result
 mul-result c = search needs
 
 mul-result-2 : tie.Need-mul-result-2
 mul-result-2 c = search needs
 
-add-result : tie.Need-add-result
-add-result c = search needs
+sub-result : tie.Need-sub-result
+sub-result c = search needs
 
 mul-result-3 : tie.Need-mul-result-3
 mul-result-3 c = search needs
 
-add-result-2 : tie.Need-add-result-2
-add-result-2 c = search needs
+sub-result-2 : tie.Need-sub-result-2
+sub-result-2 c = search needs
 
 mul-result-4 : tie.Need-mul-result-4
 mul-result-4 c = search needs
 
-add-result-3 : tie.Need-add-result-3
-add-result-3 c = search needs
+sub-result-3 : tie.Need-sub-result-3
+sub-result-3 c = search needs
 
-add-result-4 : tie.Need-add-result-4
-add-result-4 c = search needs
+mul-result-5 : tie.Need-mul-result-5
+mul-result-5 c = search needs
+
+sub-result-4 : tie.Need-sub-result-4
+sub-result-4 c = search needs
 
 returns : tie.Need-returns
-unfolding reversed
-returns c = refl
+returns c = formula-is (c .args .x % 32) (omega arith) ∙ low-five (c .args .x)
 
 pub reversed-spec : {M : Type 1} → statement M
 reversed-spec =
@@ -41,10 +70,11 @@ reversed-spec =
     (tie.spec
     mul-result
     mul-result-2
-    add-result
+    sub-result
     mul-result-3
-    add-result-2
+    sub-result-2
     mul-result-4
-    add-result-3
-    add-result-4
+    sub-result-3
+    mul-result-5
+    sub-result-4
     returns)
