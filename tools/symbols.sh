@@ -4,7 +4,8 @@
 #   tools/symbols.sh ARCHIVE
 #
 # It must need no function from outside but memcpy and memset, which opl.h names, and define no name for others but
-# those that begin with opl_.
+# those that begin with opl_. Each function must stand in a section of its own, so that a linker can leave out those
+# that are not called, as README.md says.
 set -eu
 
 archive=$1
@@ -27,6 +28,24 @@ printf '%s\n' "$listed" | awk -v archive="$archive" '
             faults = faults "\n  it defines no function of opl.h"
         if (faults) {
             print "symbols: " archive ":" faults
+            exit 1
+        }
+    }' >&2
+
+# a line of a symbol: name|value|class|type|size|line|section
+nm -f sysv "$archive" | awk -F ' *[|] *' -v archive="$archive" '
+    $4 ~ /FUNC/ {
+        functions++
+        if ($7 in first)
+            faults = faults "\n  " $7 " has " first[$7] " and " $1
+        else
+            first[$7] = $1
+    }
+    END {
+        if (!functions)
+            faults = "\n  no function was found"
+        if (faults) {
+            print "symbols: " archive ": a section is to have one function:" faults
             exit 1
         }
     }' >&2
