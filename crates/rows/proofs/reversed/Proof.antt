@@ -1,7 +1,6 @@
--- `rows::reversed` meets its contract: the formula is the rule at each of the 32 numbers, and the rule looks at no bit above the five. Assumes nothing.
+-- `rows::reversed` meets its contract: its formula is the rule at each of the 32 numbers, and the rule looks at no bit above the five. Assumes nothing.
 use Prim.Native.Nat.{ℕ, _-_, _*_, _/_, _%_, _<_}
 use mathlib.Core.Path.{_≡_, _∙_}
-use mathlib.Core.Bool.{Bool}
 use native.Mathlib.Omega.{arith}
 use lib.Dec.{T, eqb, eqb→eq}
 use lib.Pow.{field, mod-mod-pow}
@@ -14,20 +13,13 @@ use Rattle.rows.proofs.reversed.Tie as tie
 use Rattle.rows.proofs.reversed.Reads as reads
 use Rattle.rows.proofs.reversed.Lts as lts
 
--- the formula of the code
-abbrev formula : ℕ → ℕ
-formula v = 16 * v - 24 * (v / 2) - 12 * (v / 4) - 6 * (v / 8) - 3 * (v / 16)
+-- a formula of the code's form, by its coefficients
+abbrev weighed : ℕ → ℕ → ℕ → ℕ → ℕ → ℕ → ℕ
+weighed a b c d e v = a * v - b * (v / 2) - c * (v / 4) - d * (v / 8) - e * (v / 16)
 
-reverses : ℕ → Bool
-reverses v = eqb (formula v) (reversed v)
-
-all-reverse : T (allBelow reverses 32)
-unfolding reverses reversed
-all-reverse = tt
-
-formula-is : (v : ℕ) → v < 32 → formula v ≡ reversed v
-unfolding reverses
-formula-is v h = eqb→eq (formula v) (reversed v) (at-all reverses 32 all-reverse v h)
+-- it is the reversal where one computed test over the 32 numbers says so
+formula-is : (a b c d e v : ℕ) → v < 32 → T (allBelow (λ w. eqb (weighed a b c d e w) (reversed w)) 32) → weighed a b c d e v ≡ reversed v
+formula-is a b c d e v h t = eqb→eq (weighed a b c d e v) (reversed v) (at-all (λ w. eqb (weighed a b c d e w) (reversed w)) 32 t v h)
 
 low-five : (x : ℕ) → reversed (x % 32) ≡ reversed x
 unfolding reversed
@@ -61,8 +53,10 @@ mul-result-5 c = search needs
 sub-result-4 : tie.Need-sub-result-4
 sub-result-4 c = search needs
 
+-- the coefficients are the code's own: of others the test is false
 returns : tie.Need-returns
-returns c = formula-is (c .args .x % 32) (omega arith) ∙ low-five (c .args .x)
+unfolding reversed
+returns c = formula-is _ _ _ _ _ (c .args .x % 32) (omega arith) tt ∙ low-five (c .args .x)
 
 pub reversed-spec : {M : Type 1} → statement M
 reversed-spec =
