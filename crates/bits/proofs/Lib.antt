@@ -4,5 +4,6 @@ pub mod Places
 pub mod Joined
 pub mod Numbers
 pub mod Sums
+pub mod Summed
 pub mod Ones
 pub mod Agree

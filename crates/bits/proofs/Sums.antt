@@ -29,7 +29,7 @@ xor-half a b = xor-step a b ∙ ap (λ (d : ℕ). bitXor (a / 2) (b / 2) * 2 + d
 xor-high : (a b : ℕ) → bitXor a b / 2 ≡ bitXor (a / 2) (b / 2)
 xor-high a b = omega (arith, xor-half a b)
 
-xor-low : (a b : ℕ) → bitXor a b % 2 ≡ (a + b) % 2
+pub xor-low : (a b : ℕ) → bitXor a b % 2 ≡ (a + b) % 2
 xor-low a b = omega (arith, xor-half a b)
 
 -- of two bits
