@@ -1,12 +1,12 @@
--- The constituent encoder is linear: what a sum of inputs and registers gives is the sum of what they give.
+-- The constituent encoder is linear, in its tail too: what a sum of inputs and registers gives is the sum of what they give.
 -- Assumes nothing.
 use Prim.Native.Nat.{ℕ, zero, suc, _+_, _%_, _≤_, _<_}
 use mathlib.Core.Path.{_≡_, refl, sym, ap, ap₂, _∙_}
 use mathlib.Core.List.{List, [], _∷_}
 use native.Mathlib.Omega.{arith}
 use Rattle.bits.specs.Sums.{added}
-use Rattle.constituent.specs.Constituent.{entering, y0, y1, next}
-use Rattle.constituent.specs.Symbols.{dataSymbols}
+use Rattle.constituent.specs.Constituent.{entering, y0, y1, next, state, feed, clocked}
+use Rattle.constituent.specs.Symbols.{dataSymbols, tailSymbols1, tailSymbols2}
 use Rattle.constituent.specs.Six.{bitOf, after, registers}
 use Rattle.constituent.specs.declared.State.{State}
 
@@ -32,6 +32,9 @@ apart3 a b c = more (a % 2 + b % 2) (a + b) c (apart a b)
 
 apart4 : (a b c d : ℕ) → (a % 2 + b % 2 + c % 2 + d % 2) % 2 ≡ (a + b + c + d) % 2
 apart4 a b c d = more (a % 2 + b % 2 + c % 2) (a + b + c) d (apart3 a b c)
+
+two : (a b c d : ℕ) → ((a + b) % 2 + (c + d) % 2) % 2 ≡ ((a + c) % 2 + (b + d) % 2) % 2
+two a b c d = apart (a + b) (c + d) ∙ ap (λ (x : ℕ). x % 2) (omega arith) ∙ sym (apart (a + c) (b + d))
 
 module _ (a b c d e f : ℕ) where
   three : ((a + b) % 2 + (c + d) % 2 + (e + f) % 2) % 2 ≡ ((a + c + e) % 2 + (b + d + f) % 2) % 2
@@ -61,12 +64,43 @@ module _ (u v : ℕ) (s t : State) where
   unfolding next
   next-sum = ap {A = ℕ} {B = State} (λ x. record { a1 = x; a2 = (s .a1 + t .a1) % 2; a3 = (s .a2 + t .a2) % 2 }) enters-sum
 
+feed-sum : (s t : State) → feed (plus s t) ≡ (feed s + feed t) % 2
+unfolding feed
+feed-sum s t = two (s .a2) (t .a2) (s .a3) (t .a3)
+
+-- ---- the symbols of a bit period and of a period of the tail
 pub data-sum : (u v : ℕ) (s t : State) (u' v' : ℕ) (s' t' : State)
     → dataSymbols ((u + v) % 2) (plus s t) ((u' + v') % 2) (plus s' t') ≡ added (dataSymbols u s u' s') (dataSymbols v t v' t')
 unfolding dataSymbols added
 data-sum u v s t u' v' s' t' =
     ap₂ (λ (x : ℕ) (l : List ℕ). (u + v) % 2 ∷ x ∷ l) (y0-sum u v s t)
     (ap₂ (λ (x : ℕ) (l : List ℕ). x ∷ l) (y1-sum u v s t) (ap₂ (λ (x y : ℕ). x ∷ y ∷ []) (y0-sum u' v' s' t') (y1-sum u' v' s' t')))
+
+pub tail-sum1 : (s t : State) → tailSymbols1 (plus s t) ≡ added (tailSymbols1 s) (tailSymbols1 t)
+unfolding tailSymbols1 added
+tail-sum1 s t =
+    ap (λ (x : ℕ). x ∷ y0 x (plus s t) ∷ y1 x (plus s t) ∷ 0 ∷ 0 ∷ []) (feed-sum s t)
+    ∙ ap₂ (λ (x y : ℕ). (feed s + feed t) % 2 ∷ x ∷ y ∷ 0 ∷ 0 ∷ []) (y0-sum (feed s) (feed t) s t) (y1-sum (feed s) (feed t) s t)
+
+pub tail-sum2 : (s t : State) → tailSymbols2 (plus s t) ≡ added (tailSymbols2 s) (tailSymbols2 t)
+unfolding tailSymbols2 added
+tail-sum2 s t =
+    ap (λ (x : ℕ). x ∷ 0 ∷ 0 ∷ y0 x (plus s t) ∷ y1 x (plus s t) ∷ []) (feed-sum s t)
+    ∙ ap₂ (λ (x y : ℕ). (feed s + feed t) % 2 ∷ 0 ∷ 0 ∷ x ∷ y ∷ []) (y0-sum (feed s) (feed t) s t) (y1-sum (feed s) (feed t) s t)
+
+-- ---- the register after inputs that are sums, and after clocks of the tail
+pub state-sum : (f g h : ℕ → ℕ) (i : ℕ) → ((k : ℕ) → h k ≡ (f k + g k) % 2) → state h i ≡ plus (state f i) (state g i)
+unfolding state
+state-sum f g h zero s = refl
+state-sum f g h (suc i) s = ap₂ next (s i) (state-sum f g h i s) ∙ next-sum (f i) (g i) (state f i) (state g i)
+
+pub clocked-sum : (s t : State) (i : ℕ) → clocked (plus s t) i ≡ plus (clocked s i) (clocked t i)
+unfolding clocked
+clocked-sum s t zero = refl
+clocked-sum s t (suc i) =
+    let a : State = clocked s i in
+    let b : State = clocked t i in
+    ap (λ (x : State). next (feed x) x) (clocked-sum s t i) ∙ ap (λ (x : ℕ). next x (plus a b)) (feed-sum a b) ∙ next-sum (feed a) (feed b) a b
 
 pub registers-sum : (s t s' t' : State) → registers (plus s t) (plus s' t') ≡ added (registers s s') (registers t t')
 unfolding added
