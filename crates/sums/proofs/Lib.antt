@@ -1,0 +1,4 @@
+pub mod Codewords
+pub mod Sums
+pub mod Calls
+pub mod Promised
