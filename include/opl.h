@@ -339,6 +339,11 @@ uint8_t opl_payload_read(const uint8_t *word, size_t n, uint8_t *header, size_t 
  *                5, 6           1/3    4,608     22, 23, 24     3/4    2,048
  *                7, 8           3/8    4,096     25, 26, 27     6/7    1,792
  *
+ * The bitwise sum of two accepted words of one length is accepted too, and its codeword is the bitwise sum of
+ * their codewords under the same pattern, tail included: so a test bench may compare the two. The codeword of
+ * zeros is of zeros. The sum of two words that opl_payload_write wrote has a wrong HeaderCRC, which is not looked
+ * at here, and which opl_payload_read refuses with OPL_CRC.
+ *
  * Refusals, in this order:
  *
  *   OPL_LENGTH          n is not 1,536 or 96

@@ -1,15 +1,16 @@
 -- Laws of bitwise sums: of numbers, and of lists of bits.
 -- Assumes nothing.
-use Prim.Native.Nat.{ℕ, zero, suc, _+_, _*_, _/_, _%_, _^_, _<_}
+use Prim.Native.Nat.{ℕ, zero, suc, _+_, _-_, _*_, _/_, _%_, _^_, _<_}
 use mathlib.Core.Path.{_≡_, refl, sym, ap, ap₂, _∙_, subst}
 use mathlib.Core.List.{List, [], _∷_}
 use native.Mathlib.Nat.{zero-mul, add-zero, add-assoc, add-mod, mod-lt, mod-eq-of-lt}
 use native.Mathlib.Omega.{arith}
 use lib.Arith.{bin-ind}
-use lib.Bits.{bitXor, differ, xor-step, xor-zero-l, xor-zero-r, xor-comm, xor-self, xor-block, xor-lt, xor-shr}
+use lib.Bits.{bitXor, bitAnd, differ, and-mask, xor-add-and, xor-step, xor-zero-l, xor-zero-r, xor-comm, xor-self, xor-block, xor-lt, xor-shr}
 use lib.Dec.{lit<}
-use lib.ListN.{length, getD}
+use lib.ListN.{length, getD, replicate}
 use lib.Pow.{pow-pos}
+use Rattle.ground.specs.Table.{tab}
 use Rattle.bits.specs.Lists.{bits, num, Below}
 use Rattle.bits.specs.Sums.{added}
 use Rattle.bits.proofs.Lists.{num-lt}
@@ -99,6 +100,12 @@ xor-times a b g = ap (λ (x : ℕ). x * g) (omega arith) ∙ go (a % 2) (b % 2) 
     go (suc zero) (suc (suc y)) h k = absurd (omega arith)
     go (suc (suc x)) y h k = absurd (omega arith)
 
+-- a number of n bits with all of them inverted
+pub xor-ones : (n a : ℕ) → a < 2 ^ n → 2 ^ n - 1 - a ≡ bitXor a (2 ^ n - 1)
+xor-ones n a h =
+    let m : bitAnd a (2 ^ n - 1) ≡ a = and-mask a n ∙ mod-eq-of-lt h in
+    omega (arith, m, xor-add-and a (2 ^ n - 1))
+
 -- ---- of lists of bits
 
 pub added-at : (l m : List ℕ) (i : ℕ) → length l ≡ length m → getD (added l m) i 0 ≡ (getD l i 0 + getD m i 0) % 2
@@ -114,6 +121,17 @@ unfolding added
 added-length [] m e = refl
 added-length (a ∷ l) [] e = sym e
 added-length (a ∷ l) (b ∷ m) e = ap suc (added-length l m (omega arith))
+
+-- a list with itself
+pub added-self : (l : List ℕ) → added l l ≡ replicate (length l) 0
+unfolding added
+added-self [] = refl
+added-self (a ∷ l) = ap₂ (λ (x : ℕ) (m : List ℕ). x ∷ m) (omega arith) (added-self l)
+
+pub tab-added : (f g : ℕ → ℕ) (i n : ℕ) → tab (λ k. (f k + g k) % 2) i n ≡ added (tab f i n) (tab g i n)
+unfolding tab added
+tab-added f g i zero = refl
+tab-added f g i (suc n) = ap (λ (l : List ℕ). (f i + g i) % 2 ∷ l) (tab-added f g (suc i) n)
 
 pub added-below : (l m : List ℕ) → Below 2 (added l m)
 unfolding added

@@ -1,3 +1,4 @@
 pub mod Laws
 pub mod Changes
+pub mod Linear
 pub mod Agree

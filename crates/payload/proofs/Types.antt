@@ -264,15 +264,22 @@ module _ (w v : List ℕ) (i : ℕ) (d : OneBit w v i) (a : Readable w) (zero : 
         | no n ↦ type-damaged n
       ]
 
--- so that of a word that was written, one changed bit of its header has it refused
-pub written-damaged : (kind id count : ℕ) (p null word : List ℕ) (r : ℕ) (m : List ℕ) → Is (written kind id count p null word) r m → r ≡ 0 → id < 256
-    → (v : List ℕ) (i : ℕ) → OneBit m v i → 5 ≡ readRefusal v
-written-damaged kind id count p null word r m o z h v i d =
+-- a word that was written is accepted, and has zeros from bit 12,228 to STS_ID, unless it is of type 1
+pub written-sound : (kind id count : ℕ) (p null word : List ℕ) (r : ℕ) (m : List ℕ) → Is (written kind id count p null word) r m → r ≡ 0 → id < 256
+    → Readable m × ((kindOf m ≡ 1 → ⊥) → fieldAt m 12228 32 ≡ 0)
+written-sound kind id count p null word r m o z h =
     let could : Writable kind count (length p) (length null) (length word) = wrote kind id count p null word r m o z in
     let packet : List ℕ = packetOf kind count p null in
     let left : m ≡ wordOf kind id packet = writes kind id count p null word r m o could .1 in
     let size : length packet ≡ packetBytes kind = carried-length kind count p null (length word) could in
     let fit : length packet ≤ frontBytes kind = subst (λ (x : ℕ). x ≤ frontBytes kind) (sym size) (packet-le kind) in
     let kw : kindOf (wordOf kind id packet) ≡ kind = kind-back kind id packet fit (omega (arith, could .kind-is)) in
-    header-damaged (wordOf kind id packet) v i (subst (λ (x : List ℕ). OneBit x v i) left d) (read-back kind id packet (could .kind-is) h size)
-    (λ n. zeros-back kind id packet (could .kind-is) size (λ e. n (kw ∙ e)))
+    subst (λ (x : List ℕ). Readable x × ((kindOf x ≡ 1 → ⊥) → fieldAt x 12228 32 ≡ 0)) (sym left)
+    (read-back kind id packet (could .kind-is) h size, λ n. zeros-back kind id packet (could .kind-is) size (λ e. n (kw ∙ e)))
+
+-- so that one changed bit of its header has it refused
+pub written-damaged : (kind id count : ℕ) (p null word : List ℕ) (r : ℕ) (m : List ℕ) → Is (written kind id count p null word) r m → r ≡ 0 → id < 256
+    → (v : List ℕ) (i : ℕ) → OneBit m v i → 5 ≡ readRefusal v
+written-damaged kind id count p null word r m o z h v i d =
+    let s = written-sound kind id count p null word r m o z h in
+    header-damaged m v i d (s .0) (s .1)

@@ -12,7 +12,7 @@ use Rattle.patterns.specs.Blocks.{blockBy}
 use Rattle.patterns.specs.Sent.{codeLength}
 use Rattle.turbo.specs.Encode.{blockOf, codeword, refusal, encoded}
 use Rattle.turbo.proofs.CodeBits.{encoded-zero}
-use Rattle.sums.specs.Calls.{Call, Summing, Answered, Fits, Sent, Silent}
+use Rattle.sums.specs.Calls.{Call, Summing, SumAnswered, Fits, SumSent, ZerosSent}
 use Rattle.sums.proofs.Codewords.{codeword-sum}
 use Rattle.sums.proofs.Sums.{sums-accepted, zeros-coded, taken, zeros-spare}
 
@@ -34,8 +34,8 @@ unfolding encoded
 answer-refused a did zero = sym (did .answer) ∙ zero
 
 module _ (a b c : Call) (da : Did a) (db : Did b) (dc : Did c) where
-  pub answered : Answered a b c
-  answered s za zb =
+  pub sum-answered : SumAnswered a b c
+  sum-answered s za zb =
       let v : List ℕ = a .infoword in
       let w : List ℕ = b .infoword in
       let p : ℕ = a .pattern in
@@ -55,17 +55,17 @@ module _ (a b c : Call) (da : Did a) (db : Did b) (dc : Did c) where
       let second : b .left ≡ codeword p n w = lb .1 ∙ ap₂ (λ (q k : ℕ). codeword q k w) (s .pattern-b) same in
       (lc .0, third ∙ codeword-sum v w (s .words) p n ∙ sym (ap₂ summed (la .1) second))
 
-  pub sent : Sent a b c
-  sent n s f spare spare' =
+  pub sum-sent : SumSent a b c
+  sum-sent n s f spare spare' =
       let za : a .answer ≡ 0 = left-codeword a da (taken (a .pattern) n (a .infoword) (length (a .lent)) (f .coded) (f .block) spare (f .lent)) .0 in
       let rb : refusal (a .pattern) (b .infoword) (length (a .lent)) ≡ 0 =
       taken (a .pattern) n (b .infoword) (length (a .lent)) (f .coded) (ap (blockBy 1536 96) (sym (s .words)) ∙ f .block) spare' (f .lent) in
       let zb : b .answer ≡ 0 = left-codeword b db (ap₂ (λ (q k : ℕ). refusal q (b .infoword) k) (s .pattern-b) (s .lent-b) ∙ rb) .0 in
-      let third = answered s za zb in
+      let third = sum-answered s za zb in
       (za, zb, third .0, third .1)
 
-pub silent : (a : Call) → Did a → Silent a
-silent a did n f zeros =
+pub zeros-sent : (a : Call) → Did a → ZerosSent a
+zeros-sent a did n f zeros =
     let len : ℕ = length (a .infoword) in
     let left = left-codeword a did (taken (a .pattern) n (a .infoword) (length (a .lent)) (f .coded) (f .block) (ap (λ (x : List ℕ). fieldAt x n 6) zeros ∙ zeros-spare len n) (f .lent)) in
     (left .0, left .1 ∙ ap₂ (codeword (a .pattern)) (f .block) zeros ∙ zeros-coded (a .pattern) n len ∙ ap (λ (k : ℕ). replicate k 0) (sym (f .lent)))

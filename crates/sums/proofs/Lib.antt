@@ -1,4 +1,5 @@
 pub mod Codewords
 pub mod Sums
 pub mod Calls
+pub mod Headers
 pub mod Promised

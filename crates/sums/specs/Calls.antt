@@ -28,8 +28,8 @@ pub record Summing (a b c : Call) : Type 0 where
   pub lent-c : length (c .lent) ≡ length (a .lent)
 
 -- where the first two answered 0, so did the third, and it left the sum of what they left
-abbrev pub Answered : Call → Call → Call → Type 0
-Answered a b c = Summing a b c → a .answer ≡ 0 → b .answer ≡ 0 → (c .answer ≡ 0) × (c .left ≡ summed (a .left) (b .left))
+abbrev pub SumAnswered : Call → Call → Call → Type 0
+SumAnswered a b c = Summing a b c → a .answer ≡ 0 → b .answer ≡ 0 → (c .answer ≡ 0) × (c .left ≡ summed (a .left) (b .left))
 
 -- a call with a block of n bits that is coded under its pattern, and a codeword of the length that this has
 pub record Fits (n : ℕ) (a : Call) : Type 0 where
@@ -38,11 +38,11 @@ pub record Fits (n : ℕ) (a : Call) : Type 0 where
   pub lent : length (a .lent) ≡ codeLength (a .pattern) n / 8
 
 -- where the spare bits of the first two words are zero, all three answered 0, and the third left the sum of what the first two left
-abbrev pub Sent : Call → Call → Call → Type 0
-Sent a b c =
+abbrev pub SumSent : Call → Call → Call → Type 0
+SumSent a b c =
     (n : ℕ) → Summing a b c → Fits n a → fieldAt (a .infoword) n 6 ≡ 0 → fieldAt (b .infoword) n 6 ≡ 0
     → (a .answer ≡ 0) × (b .answer ≡ 0) × (c .answer ≡ 0) × (c .left ≡ summed (a .left) (b .left))
 
 -- a word of zeros was coded as zeros
-abbrev pub Silent : Call → Type 0
-Silent a = (n : ℕ) → Fits n a → a .infoword ≡ replicate (length (a .infoword)) 0 → (a .answer ≡ 0) × (a .left ≡ replicate (length (a .lent)) 0)
+abbrev pub ZerosSent : Call → Type 0
+ZerosSent a = (n : ℕ) → Fits n a → a .infoword ≡ replicate (length (a .infoword)) 0 → (a .answer ≡ 0) × (a .left ≡ replicate (length (a .lent)) 0)
