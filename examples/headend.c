@@ -100,10 +100,7 @@ static bool take_payload(struct frames *frames, uint8_t *payload)
 static bool payload_word(struct frames *frames, uint8_t id, uint8_t *word)
 {
     uint8_t payload[OPL_PAYLOAD_BYTES];
-    return take_payload(frames, payload) &&
-           accepted(opl_payload_write(TRANSPARENT, id, 0, payload, sizeof payload, OPL_EMPTY, 0, word,
-                                      OPL_PAYLOAD_WORD_BYTES),
-                    "opl_payload_write", "a payload");
+    return take_payload(frames, payload) && transparent_word(id, payload, word);
 }
 
 /* Makes the next payload word of a stream, and keeps the first one of the frame that is read back. */
@@ -332,12 +329,7 @@ static bool load_sheet(struct frames *frames, const char *path, uint8_t sheet[SH
 /* Reads how many frames are to be played: as many at least as the frame that is read back takes. */
 static bool read_count(const char *word, size_t *count)
 {
-    char *end;
-    unsigned long number = strtoul(word, &end, 10);
-    if (word[0] < '0' || word[0] > '9' || *end != '\0' || number <= READ_BACK || number > FRAMES_MOST)
-        return fail("COUNT is a number of frames from %d to %d, and not %s", READ_BACK + 1, FRAMES_MOST, word);
-    *count = number;
-    return true;
+    return read_number("COUNT", "frames", word, READ_BACK + 1, FRAMES_MOST, count);
 }
 
 int main(int count, char **words)

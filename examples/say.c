@@ -3,9 +3,13 @@
 #include <errno.h>
 #include <stdarg.h>
 #include <stdio.h>
+#include <stdlib.h>
 #include <string.h>
 
 #include "opl_text.h"
+
+/* What marked buffers hold. */
+enum { MARK = 0xA5 };
 
 bool fail(const char *why, ...)
 {
@@ -32,6 +36,14 @@ bool load(const char *path, uint8_t *bytes, size_t room, size_t *n)
     return read;
 }
 
+bool read_number(const char *name, const char *of, const char *word, size_t least, size_t most, size_t *number)
+{
+    char *end;
+    *number = strtoul(word, &end, 10);
+    return (word[0] >= '0' && word[0] <= '9' && *end == '\0' && *number >= least && *number <= most) ||
+           fail("%s is a number of %s from %zu to %zu, and not %s", name, of, least, most, word);
+}
+
 const char *plural(size_t n)
 {
     return n == 1 ? "" : "s";
@@ -55,5 +67,18 @@ bool refused(uint8_t answer, uint8_t expected, const char *given)
     if (answer != expected)
         return fail("%s: the answer was %d, %s, and not %d", given, answer, opl_refusal_text(answer), expected);
     printf("  %-*s refused %d, %s\n", GIVEN, given, answer, opl_refusal_text(answer));
+    return true;
+}
+
+void mark(uint8_t *bytes, size_t n)
+{
+    memset(bytes, MARK, n);
+}
+
+bool untouched(const uint8_t *bytes, size_t n)
+{
+    for (size_t i = 0; i < n; i++)
+        if (bytes[i] != MARK)
+            return fail("a refused call touched its buffer");
     return true;
 }

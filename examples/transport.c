@@ -3,11 +3,17 @@
 #include <errno.h>
 #include <string.h>
 
-#include "opl.h"
 #include "say.h"
 
 /* What each packet begins with. */
 enum { SYNC = 0x47 };
+
+bool transparent_word(uint8_t id, const uint8_t payload[OPL_PAYLOAD_BYTES], uint8_t *word)
+{
+    return accepted(opl_payload_write(TRANSPARENT, id, 0, payload, OPL_PAYLOAD_BYTES, OPL_EMPTY, 0, word,
+                                      OPL_PAYLOAD_WORD_BYTES),
+                    "opl_payload_write", "a payload");
+}
 
 /* Says what is wrong with n bytes that were read as the next packet. True if nothing is. */
 static bool is_packet(const struct transport *transport, const uint8_t *bytes, size_t n)

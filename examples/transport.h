@@ -1,5 +1,6 @@
 /*
- * A transport stream (ISO/IEC 13818-1) in a file, and the payload words that carry it (clause 4.3.3).
+ * A transport stream (ISO/IEC 13818-1) in a file, and the payload words that carry it (clause 4.3.3). And payload
+ * words of type 1, which carry anything (clause 4.3.2).
  */
 #ifndef TRANSPORT_H
 #define TRANSPORT_H
@@ -9,8 +10,13 @@
 #include <stdint.h>
 #include <stdio.h>
 
+#include "opl.h"
+
 /* The stream types of payload words (clauses 4.3.1 to 4.3.3). */
 enum { DUMMY = 0, TRANSPARENT = 1, TRANSPORT = 2 };
+
+/* Writes a payload word of type 1, 1,536 bytes. */
+bool transparent_word(uint8_t id, const uint8_t payload[OPL_PAYLOAD_BYTES], uint8_t *word);
 
 /* A file of packets, and how far it was read. */
 struct transport {
