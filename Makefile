@@ -23,6 +23,8 @@ pkgconfigdir := $(libdir)/pkgconfig
 # folders too, so that a file that is gone counts as a change
 sources := crates.txt $(shell find crates -name must-fail -prune -o \( -type d -o -name '*.rt' -o -name '*.antt' \) -print)
 
+# how many pairs of words `make self-test` adds under each pattern; empty: as many as the head-end does by itself
+pairs :=
 # how long `make soak` fuzzes
 seconds := 60
 # whether `make bench` counts instructions instead of measuring times; any word but an empty one is yes
@@ -30,6 +32,7 @@ counts :=
 
 # what each target needs installed, besides make and a shell
 tools-demo := rt gcc
+tools-self-test := $(tools-demo)
 tools-test := rt gcc g++ cargo python3
 tools-lib := rt
 tools-bench := rt gcc cargo $(if $(counts),valgrind)
@@ -40,12 +43,16 @@ missing = $(strip $(foreach tool,$1,$(if $(shell command -v $(tool) 2>/dev/null)
 
 need = $(if $(call missing,$(tools-$1)),$(error make $1 needs what is not installed: $(call missing,$(tools-$1)) (README.md, "What must be installed")))
 
-.PHONY: help demo test bench soak lib install uninstall install-test clean need-demo need-test need-bench need-soak
+.PHONY: help demo self-test test bench soak lib install uninstall install-test clean
+.PHONY: need-demo need-self-test need-test need-bench need-soak
 .DELETE_ON_ERROR:
 
 help:
 	@echo 'make demo    build the library and the C head-end of examples/, and play some frames of a sheet'
 	@echo '             (sheet=FILE, payload=FILE, stream=FILE, frames=FILE: other files; stream=: no transport stream)'
+	@echo 'make self-test'
+	@echo '             have the head-end encode sums of words under each pattern and hold them to the sums of codewords'
+	@echo '             (pairs=N: another number of sums under each)'
 	@echo 'make test    prove everything, then test the library that was proved'
 	@echo 'make bench   compare the speed of each function with the second implementation (counts=1: count instructions)'
 	@echo 'make soak    fuzz the library for a minute (seconds=N for longer), then look for memory faults'
@@ -61,6 +68,9 @@ demo: need-demo $(headend) $(listing)
 	@listed=0; \
 	sh tools/x86-64.sh run $(listing) <'$(sheet)' || listed=$$?; \
 	sh tools/x86-64.sh run $(headend) '$(sheet)' '$(payload)' '$(frames)' $(if $(stream),'$(stream)') && exit $$listed
+
+self-test: need-self-test $(headend)
+	@sh tools/x86-64.sh run $(headend) --self-test $(if $(pairs),'$(pairs)')
 
 test: need-test
 	@bash tools/test.sh
@@ -109,5 +119,5 @@ target/bin/listing: $(sources) | need-demo $(archive)
 	@rt check listing
 	@touch -c $@
 
-need-demo need-test need-bench need-soak: need-%:
+need-demo need-self-test need-test need-bench need-soak: need-%:
 	$(call need,$*)@:

@@ -19,6 +19,20 @@ size_t coded_bits(size_t n)
     return lane_places(n) / GROUP - TAIL_GROUPS;
 }
 
+/* A value of 1 for each code bit is placed, so that each place of the lane holds how often it is sent. */
+size_t tail_bits(unsigned pattern, size_t m, size_t n)
+{
+    static int8_t ones[8 * OPL_PAYLOAD_CODEWORD_MOST];
+    static int16_t copies[OPL_PAYLOAD_LANE];
+    size_t end = lane_places(n), bits = 0;
+    memset(ones, 1, 8 * m);
+    if (!accepted(opl_place(pattern, ones, 8 * m, copies, end), "opl_place", "a value for each code bit"))
+        return 0;
+    for (size_t i = end - GROUP * TAIL_GROUPS; i < end; i++)
+        bits += (size_t)copies[i];
+    return bits;
+}
+
 /* The code bits as they are received without noise: 1 for a zero and -1 for a one. */
 static void receive(const uint8_t *codeword, int8_t *values, size_t bits)
 {

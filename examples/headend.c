@@ -4,6 +4,7 @@
  * carries packets, as a receiver and test equipment do. `make demo` builds it and runs it.
  *
  *   headend SHEET PAYLOAD FRAMES [STREAM [COUNT]]
+ *   headend --self-test [PAIRS]
  *
  *   SHEET     the file of the first frame's sheet; -: standard input
  *   PAYLOAD   the file that fills the payload words, 1,532 bytes each, with zeros after its end
@@ -13,9 +14,13 @@
  *             packets a payload word; null packets fill up the last of these, and dummy words follow. Without it
  *             PAYLOAD fills the words of that stream too
  *   COUNT     how many frames are played; 4 where it is not given
+ *   PAIRS     how many pairs of words the self-test adds under each pattern; 8 where it is not given
  *
- * It exits 0 only if every call answered as expected and gave what was expected, so not if the sheet is
- * refused. The frames lack what the library does not have yet: mixer, dispersers and collector (clauses
+ * The self-test plays no frame and takes no file: it encodes sums of words, as a test bench does, and holds their
+ * codewords to the sums of codewords (sums.h). `make self-test` runs it.
+ *
+ * The head-end exits 0 only if every call answered as expected and gave what was expected, so not if the sheet
+ * is refused. The frames lack what the library does not have yet: mixer, dispersers and collector (clauses
  * 4.5 to 4.8) come with request 2026-06. The sheet is taken for that of the first frame itself, not for one
  * that Reconfig_Flag or Reschedule_Flag announces.
  */
@@ -28,6 +33,7 @@
 #include "readback.h"
 #include "say.h"
 #include "sheet.h"
+#include "sums.h"
 #include "table.h"
 #include "transport.h"
 
@@ -332,16 +338,29 @@ static bool read_count(const char *word, size_t *count)
     return read_number("COUNT", "frames", word, READ_BACK + 1, FRAMES_MOST, count);
 }
 
-int main(int count, char **words)
+/* Plays the frames that the words name, and reads them. */
+static bool play_named(int count, char **words)
 {
-    if (count < 4 || count > 6) {
-        fail("usage: headend SHEET PAYLOAD FRAMES [STREAM [COUNT]]");
-        return EXIT_FAILURE;
-    }
     struct frames frames = {.payload_path = words[2], .path = words[3], .count = FRAMES};
     uint8_t sheet[SHEET_BYTES];
-    bool ok = (count < 6 || read_count(words[5], &frames.count)) && load_sheet(&frames, words[1], sheet) &&
-              demonstrate(&frames, sheet, count < 5 ? NULL : words[4]);
+    return (count < 6 || read_count(words[5], &frames.count)) && load_sheet(&frames, words[1], sheet) &&
+           demonstrate(&frames, sheet, count < 5 ? NULL : words[4]);
+}
+
+/* Does what the words ask for. Behind the last of them stands a null pointer, as C has it. */
+static bool serve(int count, char **words)
+{
+    bool tested = count > 1 && strcmp(words[1], "--self-test") == 0;
+    if (tested && count <= 3)
+        return self_test(words[2]);
+    if (!tested && count >= 4 && count <= 6)
+        return play_named(count, words);
+    return fail("usage: headend SHEET PAYLOAD FRAMES [STREAM [COUNT]], or headend --self-test [PAIRS]");
+}
+
+int main(int count, char **words)
+{
+    bool ok = serve(count, words);
     if (fflush(stdout) != 0 || ferror(stdout))
         ok = fail("standard output: %s", strerror(errno));
     return ok ? EXIT_SUCCESS : EXIT_FAILURE;
