@@ -1,27 +1,20 @@
-//! opl_encode against the second encoder: the number and every byte of the codeword.
+//! opl_encode against the second encoder: the number and every byte of the codeword. Sums of words have tests of their
+//! own, sums.rs.
 
+mod codewords;
+
+use codewords::both_encode;
 use compare::inputs::{self, Coding};
-use compare::lent::first_difference;
 use compare::opl;
 use compare::rng::Rng;
 use compare::second::bits::set_bit;
-use compare::second::turbo::encode;
 
-/// The number that both encoders give for a codeword of that length, filled at random. Panics unless
-/// they agree on it and on every byte of the codeword.
+/// The number that both encoders give for a codeword of that length.
 #[track_caller]
 fn both(rng: &mut Rng, pattern: u32, infoword: &[u8], length: usize) -> u8 {
-    let held = rng.bytes(length);
-    let (number, expected) = match encode(pattern, infoword, length) {
-        Ok(codeword) => (0, codeword),
-        Err(number) => (number, held.clone()),
-    };
-    let mut codeword = held;
-    let refusal = opl::encode(pattern, infoword, &mut codeword);
-    let input = format!("pattern {pattern}, {} bytes", infoword.len());
-    assert_eq!(refusal, number, "{input} into {length}");
-    assert_eq!(first_difference(&codeword, &expected), None, "{input}");
-    number
+    both_encode(rng, pattern, infoword, length)
+        .err()
+        .unwrap_or(0)
 }
 
 /// All that is encoded: the pattern, the bytes of the infoword, the bytes of the codeword.
@@ -92,28 +85,6 @@ fn one_word_after_another() {
     let words: Vec<Vec<u8>> = (0..3).map(|_| inputs::infoword(&mut rng, 1_536)).collect();
     for word in words.iter().chain(&words) {
         assert_eq!(both(&mut rng, 13, word, payload_bytes(13)), 0);
-    }
-}
-
-/// The codeword of a sum of words is the sum of their codewords.
-#[test]
-fn sums_of_words() {
-    let mut rng = Rng::new(404);
-    let sum = |one: &[u8], other: &[u8]| -> Vec<u8> {
-        one.iter().zip(other).map(|(a, b)| a ^ b).collect()
-    };
-    for (pattern, n, length) in kinds() {
-        let [one, other] = [(); 2].map(|()| inputs::infoword(&mut rng, n));
-        let mut codeword = |word: &[u8]| {
-            let mut codeword = rng.bytes(length);
-            assert_eq!(opl::encode(pattern, word, &mut codeword), 0);
-            codeword
-        };
-        let both = codeword(&sum(&one, &other));
-        assert!(
-            both == sum(&codeword(&one), &codeword(&other)),
-            "pattern {pattern}"
-        );
     }
 }
 

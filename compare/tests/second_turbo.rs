@@ -11,10 +11,6 @@ fn code_bits(number: u32) -> usize {
     pattern(number).unwrap().code_bits(12_282)
 }
 
-fn xor(one: &[u8], other: &[u8]) -> Vec<u8> {
-    one.iter().zip(other).map(|(a, b)| a ^ b).collect()
-}
-
 /// Infoword length and pattern: all that is encoded.
 fn kinds() -> impl Iterator<Item = (usize, u32, usize)> {
     (0..28)
@@ -26,15 +22,11 @@ fn kinds() -> impl Iterator<Item = (usize, u32, usize)> {
 fn sum_of_words_gives_sum_of_codewords() {
     let mut rng = Rng::new(30);
     for (length, number, code) in kinds() {
-        let one = inputs::infoword(&mut rng, length);
-        let other = inputs::infoword(&mut rng, length);
-        let sum = xor(&one, &other);
+        let words = [(); 2].map(|()| inputs::infoword(&mut rng, length));
+        let coded = |word: &Vec<u8>| encode(number, word, code).unwrap();
         assert_eq!(
-            encode(number, &sum, code).unwrap(),
-            xor(
-                &encode(number, &one, code).unwrap(),
-                &encode(number, &other, code).unwrap()
-            ),
+            coded(&inputs::sum(&words)),
+            inputs::sum(&words.each_ref().map(coded)),
             "{number}"
         );
     }

@@ -145,9 +145,6 @@ fn packets_with_a_single_bit() {
 #[test]
 fn sums_of_packets() {
     let mut rng = Rng::new(324);
-    let sum = |one: &[u8], other: &[u8]| -> Vec<u8> {
-        one.iter().zip(other).map(|(a, b)| a ^ b).collect()
-    };
     let written = |rng: &mut Rng, payload: &[u8]| {
         let writing = Writing {
             ty: 2,
@@ -162,7 +159,7 @@ fn sums_of_packets() {
         let [one, other] = [(); 2].map(|()| rng.bytes(1_504));
         let mut added = written(&mut rng, &one);
         inputs::add_parts(&mut added, &written(&mut rng, &other));
-        assert!(written(&mut rng, &sum(&one, &other)) == added);
+        assert!(written(&mut rng, &inputs::sum(&[one, other])) == added);
     }
 }
 

@@ -87,3 +87,16 @@ fn flip(rng: &mut Rng, bytes: &mut [u8], from: usize, to: usize) {
 pub fn flip_bit(bytes: &mut [u8], index: usize) {
     bytes[index / 8] ^= 0x80 >> (index % 8);
 }
+
+/// The bitwise sum of words, or codewords, of one length; at least one.
+pub fn sum(words: &[impl AsRef<[u8]>]) -> Vec<u8> {
+    let (first, others) = words.split_first().expect("there is one");
+    let mut sum = first.as_ref().to_vec();
+    for other in others {
+        assert_eq!(other.as_ref().len(), sum.len(), "words of one length");
+        for (byte, added) in sum.iter_mut().zip(other.as_ref()) {
+            *byte ^= added;
+        }
+    }
+    sum
+}
