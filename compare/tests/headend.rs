@@ -1,34 +1,18 @@
 //! The head-end of examples/ over transport streams: what it sends of them, that it reads it back, and which files it
-//! refuses.
+//! refuses. Its self-test has tests of its own, self_test.rs.
 
+mod head_end;
 mod program;
 
 use compare::inputs::{plain, plain_pipe};
 use compare::rng::Rng;
 use compare::second::signalling::sheet_of;
 use compare::stream::{pid_of, stream, MINUTE, NULL_PID, PACKET};
-use program::{build, figure, file, made, run, x86_64};
+use head_end::headend;
+use program::{figure, file, made, run, x86_64};
 use std::ffi::OsString;
 use std::fs;
-use std::path::{Path, PathBuf};
-use std::sync::OnceLock;
-
-/// The head-end, of all files that the Makefile builds it of.
-fn headend() -> &'static Path {
-    static BUILT: OnceLock<PathBuf> = OnceLock::new();
-    BUILT.get_or_init(|| {
-        let program = made("headend");
-        let listed = fs::read_dir(file("examples")).expect("examples/ is there");
-        let paths = listed.map(|entry| entry.expect("it is listed").path());
-        let is_source = |path: &PathBuf| path.extension().is_some_and(|suffix| suffix == "c");
-        build(
-            &program,
-            &paths.filter(is_source).collect::<Vec<_>>(),
-            "c11",
-        );
-        program
-    })
-}
+use std::path::PathBuf;
 
 /// What a run is made of. Its files have its name.
 struct Run {
