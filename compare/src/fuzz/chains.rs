@@ -6,13 +6,13 @@ use crate::calls::{
     Call, Encode, PayloadRead, PayloadWrite, Place, Preamble, PreambleForm, SignallingRead,
     SignallingWrite,
 };
-use crate::inputs::{add_parts, codings, flip_bit, flip_places, odd_places, Coding};
+use crate::inputs::{add_parts, codings, flip_bit, flip_places, infoword, odd_places, sum, Coding};
 use crate::second::bits::{bit, bits};
 use crate::second::payload::{self, PARTS, TRANSPORT};
 use crate::second::preamble::{Form, FORM_BYTES};
 use crate::second::signalling;
 
-pub(super) const CHAINS: [fn(&mut Trial) -> Verdict; 8] = [
+pub(super) const CHAINS: [fn(&mut Trial) -> Verdict; 9] = [
     preamble_and_form,
     sheet_and_back,
     word_and_back,
@@ -21,6 +21,7 @@ pub(super) const CHAINS: [fn(&mut Trial) -> Verdict; 8] = [
     damaged_header,
     damaged_packets,
     sum_of_packets,
+    sum_of_words,
 ];
 
 /// A header's parity where all parts hold.
@@ -154,6 +155,20 @@ impl Damaged {
         let due = [0, 0, 0, 0, id, TRANSPORT as u8, 0, holding];
         same(&reading, &header[..8], &due)
     }
+}
+
+/// Two words are coded, and their sum under the same pattern: its codeword is the sum of theirs.
+fn sum_of_words(trial: &mut Trial) -> Verdict {
+    let one = Encode::accepted(&mut trial.rng);
+    let with = |infoword| Encode {
+        infoword,
+        ..one.clone()
+    };
+    let other = with(infoword(&mut trial.rng, one.infoword.len()));
+    let both = with(sum(&[&one.infoword, &other.infoword]));
+    let mut codeword = |call: &Encode| Ok(trial.call(call, Some(0))?.codeword);
+    let codewords = [codeword(&one)?, codeword(&other)?];
+    same(&both, &codeword(&both)?, &sum(&codewords))
 }
 
 /// Encodes a word under a pattern of its block and places its code bits.
