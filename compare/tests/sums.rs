@@ -217,6 +217,22 @@ fn two_payload_words_of_any_streams_are_not_read() {
     }
 }
 
+/// That is so of words that were written, whose RFU is zero. Of two of type 2 with any RFU the sum says type 0, whose CRC
+/// covers 18 bits: by the 28 bits of RFU before those the CRC of zeros can be made up for.
+#[test]
+fn two_words_with_rfu_may_be_read_as_a_dummy() {
+    let mut rng = Rng::new(431);
+    for _ in 0..20 {
+        let one = payload_word(&mut rng, TRANSPORT);
+        let mut other = payload_word(&mut rng, TRANSPORT);
+        let ids = [&one, &other].map(|word| header(&mut rng, word).expect("it is read")[4]);
+        inputs::set_payload_header(&mut other, 0xB10, ids[1].into(), TRANSPORT, 0);
+        assert!(header(&mut rng, &other).is_ok());
+        let found = header(&mut rng, &sum(&[one, other])).expect("it is accepted");
+        assert_eq!(found[4..8], [ids[0] ^ ids[1], DUMMY as u8, 0, 0]);
+    }
+}
+
 /// Of three words the header is that of their sum again, and so is the parity of their packets.
 #[test]
 fn three_payload_words_of_one_type_are_read() {
