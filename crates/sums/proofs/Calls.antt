@@ -1,7 +1,7 @@
 -- Calls that did what the encoder's definition says: of two infowords and of their sum, and of a word of zeros.
 -- Assumes nothing.
-use Prim.Native.Nat.{ℕ, _/_}
-use mathlib.Core.Path.{_≡_, refl, sym, ap, ap₂, _∙_}
+use Prim.Native.Nat.{ℕ}
+use mathlib.Core.Path.{_≡_, sym, ap, ap₂, _∙_}
 use mathlib.Core.List.{List}
 use lib.ListN.{length, replicate}
 use Rattle.ground.specs.Outcome.{Is}
@@ -9,10 +9,9 @@ use Rattle.bits.specs.Places.{fieldAt}
 use Rattle.bits.specs.Sums.{summed}
 use Rattle.bits.proofs.Summed.{summed-length}
 use Rattle.patterns.specs.Blocks.{blockBy}
-use Rattle.patterns.specs.Sent.{codeLength}
 use Rattle.turbo.specs.Encode.{blockOf, codeword, refusal, encoded}
 use Rattle.turbo.proofs.CodeBits.{encoded-zero}
-use Rattle.sums.specs.Calls.{Call, Summing, SumAnswered, Fits, SumSent, ZerosSent}
+use Rattle.sums.specs.Calls.{Call, SumAnswered, SumSent, ZerosSent}
 use Rattle.sums.proofs.Codewords.{codeword-sum}
 use Rattle.sums.proofs.Sums.{sums-accepted, zeros-coded, taken, zeros-spare}
 

@@ -1,7 +1,7 @@
 -- The sum of two payload words that were written is refused with 5. HeaderCRC is linear but for its start with ones and its inversion,
 -- so that the CRC of a sum is not the sum of the CRCs.
 -- Assumes nothing.
-use Prim.Native.Nat.{ℕ, zero, suc, _+_, _-_, _*_, _/_, _%_, _^_, _≤_, _<_}
+use Prim.Native.Nat.{ℕ, zero, suc, _+_, _-_, _*_, _/_, _%_, _≤_, _<_}
 use mathlib.Core.Bool.{Bool, not}
 use mathlib.Core.Path.{_≡_, refl, sym, ap, ap₂, _∙_, subst}
 use mathlib.Core.List.{List}
@@ -27,7 +27,7 @@ use Rattle.bits.proofs.Summed.{summed-length, bit-summed, field-summed}
 use Rattle.crc.specs.Crc.{clock, clocks, crcOf}
 use Rattle.crc.proofs.Laws.{clocks-lt, clocks-append}
 use Rattle.crc.proofs.Linear.{clocks-sum}
-use Rattle.infoword.specs.Suffix.{kindOf, crcFieldOf, spareOf, coveredOf, headerCrc}
+use Rattle.infoword.specs.Suffix.{kindOf, crcFieldOf, coveredOf, headerCrc}
 use Rattle.infoword.proofs.Closing.{covered-2, covered-other, covered-run}
 use Rattle.encapsulation.specs.Writing.{written}
 use Rattle.fields.specs.Report.{readRefusal}

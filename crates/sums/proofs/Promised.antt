@@ -1,7 +1,6 @@
 -- Sums of words, and a word of zeros, of the functions' own promises: the encoder's, and those of the writer and the reader of payload words.
 -- Assumes nothing.
 use mathlib.Core.Path.{_≡_, sym, ap, _∙_}
-use mathlib.Core.List.{List}
 use native.Mathlib.Omega.{arith}
 use contract.Lifetimes.{Lfts}
 use borrow.Fn.World.{ArgsD, ResD}
