@@ -8,9 +8,8 @@ use native.Mathlib.Omega.{arith}
 use lib.Arith.{bin-ind}
 use lib.Bits.{bitXor, bitAnd, differ, and-mask, xor-add-and, xor-step, xor-zero-l, xor-zero-r, xor-comm, xor-self, xor-block, xor-lt, xor-shr}
 use lib.Dec.{lit<}
-use lib.ListN.{length, getD, replicate}
+use lib.ListN.{length, getD}
 use lib.Pow.{pow-pos}
-use Rattle.ground.specs.Table.{tab}
 use Rattle.bits.specs.Lists.{bits, num, Below}
 use Rattle.bits.specs.Sums.{added}
 use Rattle.bits.proofs.Lists.{num-lt}
@@ -121,17 +120,6 @@ unfolding added
 added-length [] m e = refl
 added-length (a ∷ l) [] e = sym e
 added-length (a ∷ l) (b ∷ m) e = ap suc (added-length l m (omega arith))
-
--- a list with itself
-pub added-self : (l : List ℕ) → added l l ≡ replicate (length l) 0
-unfolding added
-added-self [] = refl
-added-self (a ∷ l) = ap₂ (λ (x : ℕ) (m : List ℕ). x ∷ m) (omega arith) (added-self l)
-
-pub tab-added : (f g : ℕ → ℕ) (i n : ℕ) → tab (λ k. (f k + g k) % 2) i n ≡ added (tab f i n) (tab g i n)
-unfolding tab added
-tab-added f g i zero = refl
-tab-added f g i (suc n) = ap (λ (l : List ℕ). (f i + g i) % 2 ∷ l) (tab-added f g (suc i) n)
 
 pub added-below : (l m : List ℕ) → Below 2 (added l m)
 unfolding added

@@ -54,7 +54,7 @@ last-four w f =
     field-is w 12256 4 (omega arith) ∙ omega (arith, f, g, field-is w 12228 32 (omega arith))
 
 -- the end of RFU, which is 0 where all of it is
-last-rfu : (w : List ℕ) → rfuOf w ≡ 0 → fieldAt w 12256 4 ≡ 0
+pub last-rfu : (w : List ℕ) → rfuOf w ≡ 0 → fieldAt w 12256 4 ≡ 0
 unfolding rfuOf
 last-rfu w z =
     elim (ℕ-discrete (kindOf w) 2) [

@@ -2,6 +2,7 @@ pub mod Answers
 pub mod Stores
 pub mod WaysBack
 pub mod Damage
+pub mod Registers
 pub mod Types
 pub mod InBytes
 pub mod Promised

@@ -4,7 +4,7 @@
 use Prim.Native.Nat.{ℕ, _+_, _-_, _*_, _≤_, _<_}
 use mathlib.Core.Bool.{Bool, not}
 use mathlib.Core.Path.{_≡_, refl, sym, ap, ap₂, _∙_, subst}
-use mathlib.Core.List.{List, _++_, append-assoc}
+use mathlib.Core.List.{List}
 use native.Mathlib.Decide.{decLt, ℕ-discrete}
 use native.Mathlib.Omega.{arith}
 use borrow.Author.Tests.{eq-eqb}
@@ -18,14 +18,13 @@ use Rattle.ground.proofs.Choice.{both-left, both-right}
 use Rattle.bits.specs.Lists.{bits}
 use Rattle.bits.specs.Places.{bitAt, number, fieldAt}
 use Rattle.bits.proofs.Places.{bit-lt, number-cong, field-is, field-lt}
-use Rattle.crc.specs.Crc.{clock, clocks, crcOf}
-use Rattle.crc.proofs.Laws.{clocks-lt, clocks-append}
-use Rattle.infoword.specs.Suffix.{idOf, kindOf, versionOf, crcFieldOf, rfuBits, rfuOf, covered, coveredOf, headerCrc, header}
-use Rattle.infoword.proofs.Ending.{rfu-2, rfu-other, covered-fields}
+use Rattle.crc.specs.Crc.{clock, clocks}
+use Rattle.infoword.specs.Suffix.{idOf, kindOf, versionOf, crcFieldOf, rfuOf, covered, coveredOf, headerCrc, header}
+use Rattle.infoword.proofs.Ending.{rfu-2, rfu-other}
 use Rattle.infoword.proofs.Closing.{covered-other}
 use Rattle.infoword.proofs.Again.{last-four}
 use Rattle.infoword.specs.Word.{packetBytes, frontBytes, wordOf}
-use Rattle.infoword.proofs.Written.{packet-le, kind-back, zeros-back}
+use Rattle.infoword.proofs.Written.{packet-le, kind-back, rfu-back, zeros-back}
 use Rattle.encapsulation.specs.Writing.{packetOf, written}
 use Rattle.encapsulation.proofs.Faults.{Writable}
 use Rattle.encapsulation.proofs.Answers.{writes, wrote, carried-length}
@@ -34,13 +33,7 @@ use Rattle.fields.proofs.Faults.{Readable, read-5}
 use Rattle.payload.specs.Damage.{OneBit}
 use Rattle.payload.proofs.WaysBack.{read-back}
 use Rattle.payload.proofs.Damage.{same-field, damaged}
-
--- the CRC's register after the bits before the stream type, and the CRC from there on
-before : ℕ → ℕ → ℕ
-before r id = clocks 128 0x2F r (bits 8 id)
-
-behind : ℕ → ℕ → ℕ
-behind r kind = clocks 128 0x2F r (bits 3 kind ++ bits 3 0)
+use Rattle.payload.proofs.Registers.{before, behind, register, of-46, of-18, behind-lt, covered-of}
 
 -- over 46 bits with type 2 it is another than over 18 with each type that differs from 2 in one bit, whatever the stream id
 differ : ℕ → ℕ → Bool
@@ -52,26 +45,6 @@ apart id = differ (behind (before 0xED id) 2) (before 0x6A id)
 all-apart : T (allBelow apart 256)
 unfolding apart before behind differ clocks clock bits
 all-apart = tt
-
-register : (n : ℕ) (id kind : ℕ) → headerCrc (header (bits n 0) id kind 0) ≡ 255 - behind (before (clocks 128 0x2F 255 (bits n 0)) id) kind
-unfolding headerCrc crcOf header before behind
-register n id kind =
-    ap (λ (x : ℕ). 255 - x)
-    (ap (clocks 128 0x2F 255) (append-assoc (bits n 0 ++ bits 8 id) (bits 3 kind) (bits 3 0))
-    ∙ clocks-append 128 0x2F 255 (bits n 0 ++ bits 8 id) (bits 3 kind ++ bits 3 0)
-    ∙ ap (λ (x : ℕ). clocks 128 0x2F x (bits 3 kind ++ bits 3 0)) (clocks-append 128 0x2F 255 (bits n 0) (bits 8 id)))
-
-of-46 : clocks 128 0x2F 255 (bits 32 0) ≡ 0xED
-unfolding clocks clock bits
-of-46 = refl
-
-of-18 : clocks 128 0x2F 255 (bits 4 0) ≡ 0x6A
-unfolding clocks clock bits
-of-18 = refl
-
-behind-lt : (r id kind : ℕ) → r < 256 → behind (before r id) kind < 256
-unfolding behind before
-behind-lt r id kind h = clocks-lt 8 0x2F (clocks 128 0x2F r (bits 8 id)) (bits 3 kind ++ bits 3 0) (omega arith) (omega arith) (clocks-lt 8 0x2F r (bits 8 id) (omega arith) (omega arith) h)
 
 -- the three types that differ from 2 in one bit
 data Near (kind : ℕ) : Type 0 where
@@ -108,14 +81,6 @@ unfolding number
 kind-bits w =
     let n : number (bitAt w) 12268 3 ≡ ((0 * 2 + bitAt w 12268) * 2 + bitAt w 12269) * 2 + bitAt w 12270 = refl in
     field-is w 12268 3 (omega arith) ∙ n ∙ omega arith
-
--- the covered bits of a word whose RFU and Encap_Ver are zero
-covered-of : (x : List ℕ) (r : ℕ) → length x ≡ 1536 → rfuBits (kindOf x) ≡ r → fieldAt x (12260 - r) r ≡ 0 → versionOf x ≡ 0 → coveredOf x ≡ header (bits r 0) (idOf x) (kindOf x) 0
-unfolding rfuOf
-covered-of x r n e f v =
-    covered-fields x n
-    ∙ ap₂ (λ (a b : ℕ). header (bits a (fieldAt x (12260 - a) a)) (idOf x) (kindOf x) b) e v
-    ∙ ap (λ (a : ℕ). header (bits r a) (idOf x) (kindOf x) 0) f
 
 -- the stream types of two words differ in one bit
 data OneOff (x y : List ℕ) : Type 0 where
@@ -264,22 +229,23 @@ module _ (w v : List ℕ) (i : ℕ) (d : OneBit w v i) (a : Readable w) (zero : 
         | no n ↦ type-damaged n
       ]
 
--- a word that was written is accepted, and has zeros from bit 12,228 to STS_ID, unless it is of type 1
+-- a word that was written is accepted, its RFU is zero, and it has zeros from bit 12,228 to STS_ID, unless it is of type 1
 pub written-sound : (kind id count : ℕ) (p null word : List ℕ) (r : ℕ) (m : List ℕ) → Is (written kind id count p null word) r m → r ≡ 0 → id < 256
-    → Readable m × ((kindOf m ≡ 1 → ⊥) → fieldAt m 12228 32 ≡ 0)
+    → Readable m × (rfuOf m ≡ 0) × ((kindOf m ≡ 1 → ⊥) → fieldAt m 12228 32 ≡ 0)
 written-sound kind id count p null word r m o z h =
     let could : Writable kind count (length p) (length null) (length word) = wrote kind id count p null word r m o z in
     let packet : List ℕ = packetOf kind count p null in
     let left : m ≡ wordOf kind id packet = writes kind id count p null word r m o could .1 in
     let size : length packet ≡ packetBytes kind = carried-length kind count p null (length word) could in
     let fit : length packet ≤ frontBytes kind = subst (λ (x : ℕ). x ≤ frontBytes kind) (sym size) (packet-le kind) in
-    let kw : kindOf (wordOf kind id packet) ≡ kind = kind-back kind id packet fit (omega (arith, could .kind-is)) in
-    subst (λ (x : List ℕ). Readable x × ((kindOf x ≡ 1 → ⊥) → fieldAt x 12228 32 ≡ 0)) (sym left)
-    (read-back kind id packet (could .kind-is) h size, λ n. zeros-back kind id packet (could .kind-is) size (λ e. n (kw ∙ e)))
+    let small : kind < 8 = omega (arith, could .kind-is) in
+    let kw : kindOf (wordOf kind id packet) ≡ kind = kind-back kind id packet fit small in
+    subst (λ (x : List ℕ). Readable x × (rfuOf x ≡ 0) × ((kindOf x ≡ 1 → ⊥) → fieldAt x 12228 32 ≡ 0)) (sym left)
+    (read-back kind id packet (could .kind-is) h size, rfu-back kind id packet fit small, λ n. zeros-back kind id packet (could .kind-is) size (λ e. n (kw ∙ e)))
 
 -- so that one changed bit of its header has it refused
 pub written-damaged : (kind id count : ℕ) (p null word : List ℕ) (r : ℕ) (m : List ℕ) → Is (written kind id count p null word) r m → r ≡ 0 → id < 256
     → (v : List ℕ) (i : ℕ) → OneBit m v i → 5 ≡ readRefusal v
 written-damaged kind id count p null word r m o z h v i d =
     let s = written-sound kind id count p null word r m o z h in
-    header-damaged m v i d (s .0) (s .1)
+    header-damaged m v i d (s .0) (s .2)
