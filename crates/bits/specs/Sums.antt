@@ -10,7 +10,7 @@ added [] m = []
 added (a ∷ l) [] = []
 added (a ∷ l) (b ∷ m) = ((a + b) % 2) ∷ added l m
 
--- the bitwise sum of two lists of bytes: at each place the exclusive or
+-- the bitwise sum of two lists of bytes of one length: at each place the exclusive or
 unfoldable pub summed : List ℕ → List ℕ → List ℕ
 summed [] w = []
 summed (a ∷ v) [] = []

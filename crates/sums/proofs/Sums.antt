@@ -2,11 +2,10 @@
 -- Assumes nothing.
 use Prim.Native.Nat.{ℕ, _+_, _*_, _/_}
 use mathlib.Core.Path.{_≡_, refl, sym, ap, ap₂, _∙_}
-use mathlib.Core.Bool.{false, not}
+use mathlib.Core.Bool.{not}
 use mathlib.Core.List.{List}
 use native.Mathlib.Omega.{arith}
 use lib.Bits.{bitXor, xor-self}
-use lib.Dec.{eqb}
 use lib.ListN.{length, replicate, length-replicate}
 use borrow.Author.Tests.{eq-eqb}
 use Rattle.ground.specs.Choice.{firstOf}
@@ -36,14 +35,11 @@ sums-coded p n c v w b b' s s' =
 
 -- ---- what is accepted: a block that is coded under the pattern, with zero spare bits, into a codeword of its length
 
-not-different : (x y : ℕ) → x ≡ y → not (eqb x y) ≡ false
-not-different x y e = ap not (eq-eqb x y e)
-
 pub taken : (p n : ℕ) (w : List ℕ) (bytes : ℕ) → Coded p n → blockOf w ≡ n → fieldAt w n 6 ≡ 0 → bytes ≡ codeLength p n / 8 → refusal p w bytes ≡ 0
 unfolding refusal faults wordFaults
 taken p n w bytes c b s l =
     ap (λ (k : ℕ). firstOf (faults p k w bytes)) b ∙ fit-after p n (wordFaults p n w bytes) (coded-fit p n c)
-    ∙ clear-all (wordFaults p n w bytes) (not-different bytes (codeLength p n / 8) l, (not-different (fieldAt w n 6) 0 s, tt))
+    ∙ clear-all (wordFaults p n w bytes) (ap not (eq-eqb bytes (codeLength p n / 8) l), (ap not (eq-eqb (fieldAt w n 6) 0 s), tt))
 
 pub spare-zero : (p : ℕ) (w : List ℕ) (bytes : ℕ) → refusal p w bytes ≡ 0 → fieldAt w (blockOf w) 6 ≡ 0
 unfolding refusal faults wordFaults
