@@ -4,14 +4,16 @@ use Prim.Native.Nat.{ℕ, _-_}
 use mathlib.Core.Path.{_≡_, sym, ap, _∙_}
 use mathlib.Core.List.{List, _++_, append-nil}
 use native.Mathlib.Decide.{ℕ-discrete}
-use borrow.Author.Tests.{eq-eqb, ne-eqb}
+use native.Mathlib.Omega.{arith}
+use borrow.Author.Tests.{eq-eqb}
 use lib.Dec.{eqb}
 use lib.ListN.{length}
 use Rattle.ground.specs.Outcome.{Is}
 use Rattle.ground.specs.Choice.{choose}
 use Rattle.ground.proofs.Choice.{choose-true, choose-false}
 use Rattle.infoword.specs.Word.{packetBytes, wordOf}
-use Rattle.infoword.proofs.Written.{packet-2}
+use Rattle.infoword.proofs.Closing.{has-2, has-not}
+use Rattle.infoword.proofs.Written.{packet-long}
 use Rattle.encapsulation.specs.Writing.{repeated, packetOf, writeRefusal, written}
 use Rattle.encapsulation.proofs.Faults.{Writable, write-accepts, writable}
 use Rattle.encapsulation.proofs.Laid.{lent-2, lent-other, packet-is, packet-other, packets-length}
@@ -34,8 +36,8 @@ module _ (kind id count : ℕ) (p null w : List ℕ) (r : ℕ) (m : List ℕ) (o
 pub carried-length : (kind count : ℕ) (p null : List ℕ) (n : ℕ) → Writable kind count (length p) (length null) n → length (packetOf kind count p null) ≡ packetBytes kind
 carried-length kind count p null n a =
     elim (ℕ-discrete kind 2) [
-      | yes e ↦ ap length (packet-is kind count p null e) ∙ packets-length count p null (a .count-is e) (a .payload-is ∙ lent-2 kind count e) (a .null-is e) ∙ sym (packet-2 kind e)
-      | no n ↦ ap length (packet-other kind count p null n) ∙ a .payload-is ∙ lent-other kind count n ∙ sym (choose-false 1504 (choose (eqb kind 1) 1532 0) (ne-eqb kind 2 n))
+      | yes e ↦ ap length (packet-is kind count p null e) ∙ packets-length count p null (a .count-is e) (a .payload-is ∙ lent-2 kind count e) (a .null-is e) ∙ sym (packet-long kind (has-2 kind e))
+      | no n ↦ ap length (packet-other kind count p null n) ∙ a .payload-is ∙ lent-other kind count n ∙ sym (choose-false 1504 (choose (eqb kind 1) 1532 0) (has-not kind n (λ e. omega (arith, a .kind-is))))
     ]
 
 -- eight packets need no null packet

@@ -2,7 +2,7 @@
 -- Assumes nothing.
 use Prim.Native.Nat.{ℕ, _+_, _-_, _*_, _≤_, _<_}
 use mathlib.Core.Bool.{Bool, true, false}
-use mathlib.Core.Path.{_≡_, sym, ap, ap₂, _∙_, subst}
+use mathlib.Core.Path.{_≡_, refl, sym, ap, ap₂, _∙_, subst}
 use mathlib.Core.List.{List, _++_, append-assoc}
 use native.Mathlib.Decide.{ℕ-discrete}
 use native.Mathlib.Omega.{arith}
@@ -16,10 +16,12 @@ use Rattle.bits.specs.Lists.{bits, pack}
 use Rattle.bits.proofs.Lists.{pack-length}
 use Rattle.parity.specs.Part.{partsOf}
 use Rattle.infoword.specs.Suffix.{header}
-use Rattle.infoword.specs.Word.{filled, fields49, wordOf}
+use Rattle.infoword.specs.Word.{filled, fields49, wordWith, wordOf}
 use Rattle.infoword.specs.Steps.{parted, sealed, closing}
 use Rattle.infoword.proofs.Written.{filled-length}
-use Rattle.infoword.proofs.Sealing.{header-number, word-other, word-2, parts-front}
+use Rattle.infoword.proofs.Closing.{has-not}
+use Rattle.infoword.proofs.Ending.{lead-long}
+use Rattle.infoword.proofs.Sealing.{header-number, word-short, word-long, parts-front}
 use Rattle.encapsulation.specs.Writing.{repeated, packetOf, lentBytes}
 use Rattle.encapsulation.specs.Steps.{filledUp, carried}
 use Rattle.encapsulation.proofs.Faults.{Writable}
@@ -80,7 +82,7 @@ module _ (kind id count : ℕ) (p null w w1 w2 w3 : List ℕ) (a : Writable kind
       let f : w2 ≡ w1 = e2 ∙ choose-false (parted (filledUp count null w1)) w1 (ne-eqb kind 2 n) in
       e3 ∙ ap (λ (x : List ℕ). closing x (id * 0x40 + kind * 8)) f ∙ close-is w1 (id * 0x40 + kind * 8) first-length
       ∙ ap₂ sealed (ap (take 1532) e1 ∙ take-at (filled 1532 p) (drop 1532 w) 1532 full) head-is
-      ∙ word-other kind id p n (omega (arith, a .kind-is)) full
+      ∙ word-short kind id p (has-not kind n (λ e. omega (arith, a .kind-is))) (omega (arith, a .kind-is)) full
 
   -- type 2
   module _ (two : kind ≡ 2) where
@@ -128,7 +130,8 @@ module _ (kind id count : ℕ) (p null w w1 w2 w3 : List ℕ) (a : Writable kind
     transport =
         e3 ∙ close-is w2 (id * 0x40 + kind * 8) second-length
         ∙ ap₂ sealed (ap (take 1532) second-is ∙ take-at (packets ++ behind) (drop 1532 up) 1532 front-length) (head-is ∙ ap (λ (k : ℕ). header (bits 4 0) id k 0) two)
-        ∙ word-2 id packets eight ∙ ap (λ (k : ℕ). wordOf k id packets) (sym two)
+        ∙ word-long 2 id 0 packets refl (omega arith) eight ∙ ap (λ (r : ℕ). wordWith 2 id (bits r 0) packets) (sym (lead-long 2 refl))
+        ∙ ap (λ (k : ℕ). wordOf k id packets) (sym two)
 
   pub laid : w3 ≡ wordOf kind id (packetOf kind count p null)
   unfolding packets

@@ -1,4 +1,4 @@
--- What is asked of what is reported of words of stream types 0 and 1: that it has nothing of type 2.
+-- What is asked of what is reported of words of stream types 0 and 1: that it has nothing of types 2 and 3.
 -- Assumes nothing.
 use Prim.Native.Nat.{ℕ, _≤_}
 use mathlib.Core.Path.{_≡_}

@@ -28,12 +28,16 @@ pub const HEADER_WRONG: u8 = 12;
 pub const COUNTS_DIFFER: u8 = 13;
 // a section's top bits set
 pub const TOP_BITS_SET: u8 = 14;
-// stream type above 2
+// stream type above 3; to write a payload word, above 2
 pub const TYPE_UNKNOWN: u8 = 15;
 // Encap_Ver not 0
 pub const ENCAP_NOT_0: u8 = 16;
 // packet count above 8
 pub const COUNT_ABOVE_8: u8 = 17;
+// First_Header_Address of 1,503 to 4,094
+pub const ADDRESS_WRONG: u8 = 18;
+// no packets of an IP stream
+pub const PACKETS_WRONG: u8 = 19;
 
 // the block sizes, in bits (clause 4.4.2), and the words that carry them, in bytes, with their six spare bits
 pub const PAYLOAD_BLOCK: usize = 12282;

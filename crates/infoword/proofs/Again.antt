@@ -2,10 +2,10 @@
 -- where it has them, it is that word.
 -- Assumes nothing.
 use Prim.Native.Nat.{ℕ, zero, suc, _+_, _-_, _*_, _/_, _%_, _^_, _≤_, _<_}
+use mathlib.Core.Bool.{true, false}
 use mathlib.Core.Path.{_≡_, refl, sym, ap, ap₂, _∙_}
 use mathlib.Core.List.{List, _++_, append-assoc, append-nil}
 use native.Mathlib.Nat.{add-zero, zero-add}
-use native.Mathlib.Decide.{ℕ-discrete}
 use native.Mathlib.Omega.{arith}
 use borrow.Author.Tests.{eqb-true}
 use lib.ListN.{length, take, drop, replicate, take-append-drop, length-drop}
@@ -21,22 +21,23 @@ use Rattle.bits.proofs.Joined.{number-num}
 use Rattle.parity.specs.Part.{partOf, partsOf, heldOf}
 use Rattle.parity.proofs.Received.{holds-at}
 use Rattle.parity.proofs.Which.{held-set}
-use Rattle.infoword.specs.Suffix.{idOf, kindOf, versionOf, crcFieldOf, spareOf, rfuBits, rfuOf, coveredOf, headerCrc, header, closed}
-use Rattle.infoword.specs.Word.{frontBytes, filled, fields49, parityParts, wordOf}
-use Rattle.infoword.proofs.Ending.{rfu-2, rfu-other, ended, apart, covered-fields, closed-fields}
+use Rattle.infoword.specs.Suffix.{idOf, kindOf, versionOf, crcFieldOf, spareOf, hasParity, leadBits, coveredOf, headerCrc, header, closed}
+use Rattle.infoword.specs.Word.{frontBytes, filled, fields49, parityParts, wordWith, wordOf}
+use Rattle.infoword.proofs.Closing.{has-2, by-parity}
+use Rattle.infoword.proofs.Ending.{lead-long, lead-short, leadOf, ended, apart, covered-fields, closed-fields}
 use Rattle.infoword.proofs.Sealing.{header-below, closed-below, parts-front}
-use Rattle.infoword.proofs.Written.{front-2, front-other, parity-2, parity-other, parity-below, word-unpacked}
+use Rattle.infoword.proofs.Written.{front-long, front-short, parity-long, parity-short, parity-below, word-unpacked}
 
 -- a word of bytes stays one
 pub word-below : (kind id : ℕ) (p : List ℕ) → Below 256 p → Below 256 (wordOf kind id p)
-unfolding wordOf filled
+unfolding wordWith filled
 word-below kind id p b =
-    let s : List ℕ = parityParts kind p ++ closed (header (bits (rfuBits kind) 0) id kind 0) in
+    let s : List ℕ = parityParts kind p ++ closed (header (bits (leadBits kind) 0) id kind 0) in
     below-append 256 (p ++ replicate (frontBytes kind - length p) 0) (pack (1536 - frontBytes kind) s)
     (below-append 256 p (replicate (frontBytes kind - length p) 0) b (below-replicate 256 (frontBytes kind - length p) 0 (omega arith)))
     (pack-below (1536 - frontBytes kind) s
-    (below-append 2 (parityParts kind p) (closed (header (bits (rfuBits kind) 0) id kind 0)) (parity-below kind p)
-    (closed-below (header (bits (rfuBits kind) 0) id kind 0) (header-below (bits (rfuBits kind) 0) id kind 0 (bits-below (rfuBits kind) 0)))))
+    (below-append 2 (parityParts kind p) (closed (header (bits (leadBits kind) 0) id kind 0)) (parity-below kind p)
+    (closed-below (header (bits (leadBits kind) 0) id kind 0) (header-below (bits (leadBits kind) 0) id kind 0 (bits-below (leadBits kind) 0)))))
 
 -- what a word must keep to be written: its length, and what stands at its end
 pub record Sound (w : List ℕ) : Type 0 where
@@ -45,7 +46,7 @@ pub record Sound (w : List ℕ) : Type 0 where
   pub spare-is : spareOf w ≡ 0
   pub crc-is : crcFieldOf w ≡ headerCrc (coveredOf w)
   pub version-is : versionOf w ≡ 0
-  pub rfu-is : rfuOf w ≡ 0
+  pub lead-is : leadOf w ≡ 0
 
 -- the end of 32 bits that are zero
 pub last-four : (w : List ℕ) → fieldAt w 12228 32 ≡ 0 → fieldAt w 12256 4 ≡ 0
@@ -53,29 +54,28 @@ last-four w f =
     let g : number (bitAt w) 12228 32 ≡ number (bitAt w) 12228 28 * 16 + number (bitAt w) 12256 4 = number-append (bitAt w) 12228 28 4 in
     field-is w 12256 4 (omega arith) ∙ omega (arith, f, g, field-is w 12228 32 (omega arith))
 
--- the end of RFU, which is 0 where all of it is
-pub last-rfu : (w : List ℕ) → rfuOf w ≡ 0 → fieldAt w 12256 4 ≡ 0
-unfolding rfuOf
-last-rfu w z =
-    elim (ℕ-discrete (kindOf w) 2) [
-      | yes e ↦ last-four w (ap (λ (r : ℕ). fieldAt w (12260 - r) r) (sym (rfu-2 (kindOf w) e)) ∙ z)
-      | no n ↦ ap (λ (r : ℕ). fieldAt w (12260 - r) r) (sym (rfu-other (kindOf w) n)) ∙ z
-    ]
+-- the end of what stands before STS_ID, which is 0 where all of it is
+pub last-lead : (w : List ℕ) → leadOf w ≡ 0 → fieldAt w 12256 4 ≡ 0
+unfolding leadOf
+last-lead w z =
+    by-parity (kindOf w)
+    (λ e. last-four w (ap (λ (r : ℕ). fieldAt w (12260 - r) r) (sym (lead-long (kindOf w) e)) ∙ z))
+    (λ e. ap (λ (r : ℕ). fieldAt w (12260 - r) r) (sym (lead-short (kindOf w) e)) ∙ z)
 
 -- the last four bytes by stream id and stream type
 abbrev lastBits : ℕ → ℕ → List ℕ
-lastBits id kind = bits 4 0 ++ ended id kind 0 (headerCrc (header (bits (rfuBits kind) 0) id kind 0)) 0
+lastBits id kind = bits 4 0 ++ ended id kind 0 (headerCrc (header (bits (leadBits kind) 0) id kind 0)) 0
 
 last-bits : (w : List ℕ) → Sound w → unpack (drop 1532 w) ≡ lastBits (idOf w) (kindOf w)
 last-bits w s =
-    let c : crcFieldOf w ≡ headerCrc (header (bits (rfuBits (kindOf w)) 0) (idOf w) (kindOf w) 0) =
-    s .crc-is ∙ ap headerCrc (covered-fields w (s .word-is) ∙ ap₂ (λ (x y : ℕ). header (bits (rfuBits (kindOf w)) x) (idOf w) (kindOf w) y) (s .rfu-is) (s .version-is)) in
+    let c : crcFieldOf w ≡ headerCrc (header (bits (leadBits (kindOf w)) 0) (idOf w) (kindOf w) 0) =
+    s .crc-is ∙ ap headerCrc (covered-fields w (s .word-is) ∙ ap₂ (λ (x y : ℕ). header (bits (leadBits (kindOf w)) x) (idOf w) (kindOf w) y) (s .lead-is) (s .version-is)) in
     let l : length (take 12256 (unpack w)) ≡ 12256 = length-take-le 12256 (unpack w) (omega (arith, unpack-length w, s .word-is)) in
     let tail : List ℕ = bits 4 (fieldAt w 12256 4) ++ ended (idOf w) (kindOf w) (versionOf w) (crcFieldOf w) (spareOf w) in
     sym (unpack-drop 1532 w (omega (arith, s .word-is)))
     ∙ ap (drop 12256) (apart w (s .word-is) 4 (omega arith))
     ∙ drop-at (take 12256 (unpack w)) tail 12256 l
-    ∙ ap₂ (λ (x y : ℕ). bits 4 x ++ ended (idOf w) (kindOf w) y (crcFieldOf w) (spareOf w)) (last-rfu w (s .rfu-is)) (s .version-is)
+    ∙ ap₂ (λ (x y : ℕ). bits 4 x ++ ended (idOf w) (kindOf w) y (crcFieldOf w) (spareOf w)) (last-lead w (s .lead-is)) (s .version-is)
     ∙ ap₂ (λ (x y : ℕ). bits 4 0 ++ ended (idOf w) (kindOf w) 0 x y) c (s .spare-is)
 
 -- two such words of one stream id and stream type end in the same four bytes
@@ -124,10 +124,10 @@ module _ (w : List ℕ) (s : Sound w) where
   abbrev front : ℕ
   front = frontBytes (kindOf w)
 
-  closing : unpack w ≡ take (12260 - rfuBits (kindOf w)) (unpack w) ++ closed (header (bits (rfuBits (kindOf w)) 0) (idOf w) (kindOf w) 0)
+  closing : unpack w ≡ take (12260 - leadBits (kindOf w)) (unpack w) ++ closed (header (bits (leadBits (kindOf w)) 0) (idOf w) (kindOf w) 0)
   closing =
       closed-fields w (s .word-is) (s .spare-is) (s .crc-is)
-      ∙ ap₂ (λ (x y : ℕ). take (12260 - rfuBits (kindOf w)) (unpack w) ++ closed (header (bits (rfuBits (kindOf w)) x) (idOf w) (kindOf w) y)) (s .rfu-is) (s .version-is)
+      ∙ ap₂ (λ (x y : ℕ). take (12260 - leadBits (kindOf w)) (unpack w) ++ closed (header (bits (leadBits (kindOf w)) x) (idOf w) (kindOf w) y)) (s .lead-is) (s .version-is)
 
   filled-is : (n : ℕ) → n ≤ 1536 → filled n (take n w) ≡ take n w
   unfolding filled
@@ -136,29 +136,30 @@ module _ (w : List ℕ) (s : Sound w) where
       ap (λ (k : ℕ). take n w ++ replicate k 0) e ∙ append-nil (take n w)
 
   whole : (n : ℕ) → n ≡ front → n ≤ 1532
-      → take (12260 - rfuBits (kindOf w)) (unpack w) ≡ unpack (take n w) ++ parityParts (kindOf w) (take n w) → w ≡ wordOf (kindOf w) (idOf w) (take n w)
+      → take (12260 - leadBits (kindOf w)) (unpack w) ≡ unpack (take n w) ++ parityParts (kindOf w) (take n w) → w ≡ wordOf (kindOf w) (idOf w) (take n w)
   whole n e h p =
       let l : length (take n w) ≤ front = omega (arith, length-take-le n w (omega (arith, s .word-is))) in
-      let t : List ℕ = closed (header (bits (rfuBits (kindOf w)) 0) (idOf w) (kindOf w) 0) in
+      let t : List ℕ = closed (header (bits (leadBits (kindOf w)) 0) (idOf w) (kindOf w) 0) in
       unpack-inj w (wordOf (kindOf w) (idOf w) (take n w)) (s .bytes) (word-below (kindOf w) (idOf w) (take n w) (below-take 256 n w (s .bytes)))
       (closing ∙ ap (λ (x : List ℕ). x ++ t) p ∙ append-assoc (unpack (take n w)) (parityParts (kindOf w) (take n w)) t
       ∙ ap (λ (x : List ℕ). unpack x ++ (parityParts (kindOf w) (take n w) ++ t)) (sym (filled-is n (omega arith)) ∙ ap (λ (k : ℕ). filled k (take n w)) e)
-      ∙ sym (word-unpacked (kindOf w) (idOf w) (take n w) l))
+      ∙ sym (word-unpacked (kindOf w) (idOf w) 0 (take n w) l))
 
   pub word-again-1 : kindOf w ≡ 1 → w ≡ wordOf (kindOf w) (idOf w) (take 1532 w)
   word-again-1 k =
-      let n : kindOf w ≡ 2 → ⊥ = λ e. omega (arith, k, e) in
-      let r : rfuBits (kindOf w) ≡ 4 = rfu-other (kindOf w) n in
-      whole 1532 (sym (front-other (kindOf w) n)) (omega arith)
+      let n : hasParity (kindOf w) ≡ false = ap hasParity k in
+      let r : leadBits (kindOf w) ≡ 4 = lead-short (kindOf w) n in
+      whole 1532 (sym (front-short (kindOf w) n)) (omega arith)
       (ap (λ (x : ℕ). take (12260 - x) (unpack w)) r ∙ unpack-take 1532 w (omega (arith, s .word-is))
-      ∙ sym (ap (λ (x : List ℕ). unpack (take 1532 w) ++ x) (parity-other (kindOf w) (take 1532 w) n) ∙ append-nil (unpack (take 1532 w))))
+      ∙ sym (ap (λ (x : List ℕ). unpack (take 1532 w) ++ x) (parity-short (kindOf w) (take 1532 w) n) ∙ append-nil (unpack (take 1532 w))))
 
   pub word-again-2 : kindOf w ≡ 2 → heldOf w ≡ 15 → w ≡ wordOf (kindOf w) (idOf w) (take 1504 w)
   word-again-2 k h =
-      let r : rfuBits (kindOf w) ≡ 32 = rfu-2 (kindOf w) k in
+      let e : hasParity (kindOf w) ≡ true = has-2 (kindOf w) k in
+      let r : leadBits (kindOf w) ≡ 32 = lead-long (kindOf w) e in
       let l : length (take 1504 w) ≡ 1504 = length-take-le 1504 w (omega (arith, s .word-is)) in
       let p : fields49 (partsOf w) ≡ parityParts (kindOf w) (take 1504 w) =
-      ap (λ (x : List ℕ). fields49 (partsOf x)) (sym (take-append-drop 1504 w)) ∙ ap fields49 (parts-front (take 1504 w) (drop 1504 w) l) ∙ sym (parity-2 (kindOf w) (take 1504 w) k) in
-      whole 1504 (sym (front-2 (kindOf w) k)) (omega arith)
+      ap (λ (x : List ℕ). fields49 (partsOf x)) (sym (take-append-drop 1504 w)) ∙ ap fields49 (parts-front (take 1504 w) (drop 1504 w) l) ∙ sym (parity-long (kindOf w) (take 1504 w) e) in
+      whole 1504 (sym (front-long (kindOf w) e)) (omega arith)
       (ap (λ (x : ℕ). take (12260 - x) (unpack w)) r ∙ take-add 12032 196 (unpack w)
       ∙ ap₂ (λ (x y : List ℕ). x ++ y) (unpack-take 1504 w (omega (arith, s .word-is))) (parts-held w (s .word-is) h ∙ p))

@@ -7,6 +7,9 @@ use borrow.Fn.Kinds.{endedOf}
 use denote.Ref.{now}
 use denote.Triple.Clauses.{AtExit}
 use Rattle.ground.proofs.Outcome.{same}
+use Rattle.infoword.proofs.has_parity as has-parity
+use Rattle.infoword.proofs.has_parity.Kinds as has-parity-kinds
+use Rattle.infoword.proofs.has_parity.Reads as has-parity-reads
 use Rattle.infoword.proofs.crc as crc
 use Rattle.infoword.proofs.crc.Kinds as crc-kinds
 use Rattle.infoword.proofs.crc.Reads as crc-reads
@@ -16,6 +19,11 @@ use Rattle.infoword.proofs.put_parts.Reads as put-parts-reads
 use Rattle.infoword.proofs.close as close
 use Rattle.infoword.proofs.close.Kinds as close-kinds
 use Rattle.infoword.proofs.close.Reads as close-reads
+
+module _ (κs : Lfts 0) (a : ArgsD has-parity.signature κs) where
+  pub has-parity-agrees : (r r′ : ResD has-parity.signature κs) (s s′ : AtExit (endedOf 0 has-parity-kinds.ps has-parity-kinds.r) κs) →
+      has-parity-reads.Post κs a r s → has-parity-reads.Post κs a r′ s′ → r ≡ r′
+  has-parity-agrees r r′ s s′ p q = same p q
 
 module _ (κs : Lfts 1) (a : ArgsD crc.signature κs) where
   pub crc-agrees : (r r′ : ResD crc.signature κs) (s s′ : AtExit (endedOf 1 crc-kinds.ps crc-kinds.r) κs) →

@@ -1,9 +1,10 @@
 -- What ends every payload word, whatever its stream type (clauses 4.3.1 to 4.3.4): the header, the CRC over it, and six spare bits.
 -- Assumes nothing.
 use Prim.Native.Nat.{ℕ, _-_}
+use mathlib.Core.Bool.{Bool}
 use mathlib.Core.List.{List, _++_}
 use lib.Dec.{eqb}
-use Rattle.ground.specs.Choice.{choose}
+use Rattle.ground.specs.Choice.{choose, either}
 use Rattle.ground.specs.Table.{tab}
 use Rattle.bits.specs.Lists.{bits}
 use Rattle.bits.specs.Places.{bitAt, fieldAt}
@@ -25,18 +26,30 @@ crcFieldOf w = fieldAt w 12274 8
 abbrev pub spareOf : List ℕ → ℕ
 spareOf w = fieldAt w 12282 6
 
--- how many bits RFU has, by stream type: 32 in type 2 (table 4), 4 in types 0 and 1 (tables 2 and 3)
+-- whether a stream type has Parity_Parts, and 32 bits between them and STS_ID: types 2 and 3 (tables 4 and 5)
+abbrev pub hasParity : ℕ → Bool
+hasParity kind = either (eqb kind 2) (eqb kind 3)
+
+-- how many bits a word has before STS_ID that are not of its payload or its parity: 32 in types 2 and 3 (tables 4 and 5), 4 in types 0 and
+-- 1 (tables 2 and 3) and in a type that is refused
+unfoldable pub leadBits : ℕ → ℕ
+leadBits kind = choose (hasParity kind) 32 4
+
+-- RFU begins there. It is all of them, but for type 3, where First_Header_Address is the last 12 (table 5)
 unfoldable pub rfuBits : ℕ → ℕ
-rfuBits kind = choose (eqb kind 2) 32 4
+rfuBits kind = choose (eqb kind 3) 20 (leadBits kind)
 
--- RFU of a word: it ends where STS_ID begins
 unfoldable pub rfuOf : List ℕ → ℕ
-rfuOf w = fieldAt w (12260 - rfuBits (kindOf w)) (rfuBits (kindOf w))
+rfuOf w = fieldAt w (12260 - leadBits (kindOf w)) (rfuBits (kindOf w))
 
--- how many bits of the header the CRC covers, by stream type: 46 for type 2 (table 4), 18 for types 0 and 1 (tables 2 and 3) and for a
--- type that is refused
+-- First_Header_Address, in type 3 alone
+abbrev pub addressOf : List ℕ → ℕ
+addressOf w = fieldAt w 12248 12
+
+-- how many bits of the header the CRC covers, by stream type: 46 for types 2 and 3 (tables 4 and 5), 18 for types 0 and 1 (tables 2 and 3)
+-- and for a type that is refused
 unfoldable pub covered : ℕ → ℕ
-covered kind = choose (eqb kind 2) 46 18
+covered kind = choose (hasParity kind) 46 18
 
 -- those bits of a word, by the type that it says itself: they end where HeaderCRC begins
 unfoldable pub coveredOf : List ℕ → List ℕ

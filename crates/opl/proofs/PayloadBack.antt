@@ -51,13 +51,14 @@ module _ (κs : Lfts 3) (a : ArgsD opl-payload-write.signature κs) (r : ResD op
       header-after (a .0) (a .1 .0) (a .1 .1 .0) (now (a .1 .1 .1 .0)) (now (a .1 .1 .1 .1 .0)) (now (a .1 .1 .1 .1 .1 .0)) r left (did .0) zero (did .1)
       (now (b .0)) (now (b .1 .0)) (now (t .1 .0)) n e l p
 
-  -- of a word with one other header bit, be it of the stream type, opl_payload_read with 16 bytes answers 5, and nothing is touched
+  -- of a word with one other header bit, be it of the stream type, opl_payload_read with 16 bytes answers 5, and nothing is touched, unless the
+  -- change makes type 3 of type 1: there the CRC covers what was payload
   pub opl-refused-where-sent-damaged : (κt : Lfts 2) (b : ArgsD opl-payload-read.signature κt) (n : ResD opl-payload-read.signature κt)
       (t : AtExit (endedOf 2 opl-payload-read-kinds.ps opl-payload-read-kinds.r) κt) (i : ℕ)
-      → OneBit left (now (b .0)) i → length (now (b .1 .0)) ≡ 16 → opl-payload-read-reads.Post κt b n t → (n ≡ 5) × (now (t .1 .0) ≡ now (b .1 .0))
-  opl-refused-where-sent-damaged κt b n t i d l p =
+      → OneBit left (now (b .0)) i → (a .0 ≡ 1 → kindOf (now (b .0)) ≡ 3 → ⊥) → length (now (b .1 .0)) ≡ 16 → opl-payload-read-reads.Post κt b n t → (n ≡ 5) × (now (t .1 .0) ≡ now (b .1 .0))
+  opl-refused-where-sent-damaged κt b n t i d m l p =
       agree p (into-refused (now (b .0)) (now (b .1 .0)) l 5
-      (written-damaged (a .0) (a .1 .0) (a .1 .1 .0) (now (a .1 .1 .1 .0)) (now (a .1 .1 .1 .1 .0)) (now (a .1 .1 .1 .1 .1 .0)) r left (did .0) zero (did .1) (now (b .0)) i d)
+      (written-damaged (a .0) (a .1 .0) (a .1 .1 .0) (now (a .1 .1 .1 .0)) (now (a .1 .1 .1 .1 .0)) (now (a .1 .1 .1 .1 .1 .0)) r left (did .0) zero (did .1) (now (b .0)) i d m)
       (omega arith))
 
   -- and the word begins with the payload, for type 2 with the null packets behind it
@@ -87,11 +88,11 @@ module _ (κs : Lfts 2) (a : ArgsD opl-payload-read.signature κs) (r : ResD opl
     opl-refused-where-damaged i d span =
         into-damaged (now (a .0)) (now (a .1 .0)) r header did zero (now (b .0)) (now (b .1 .0)) n (now (t .1 .0)) i d span room p
 
-    -- of a word with an odd number of other bits within part k, which held: just part k is reported as not holding
-    pub opl-part-seen : getD header 5 0 ≡ 2 → (k : ℕ) → getD header 7 0 / 2 ^ k % 2 ≡ 1 → OddIn (now (a .0)) (now (b .0)) k → PartSeenIn header n (now (t .1 .0)) k
-    opl-part-seen two k set d =
-        into-part-seen (now (a .0)) (now (a .1 .0)) r header did zero two (now (b .0)) (now (b .1 .0)) n (now (t .1 .0)) k set d room p
+    -- of a word of type 2 or 3 with an odd number of other bits within part k, which held: just part k is reported as not holding
+    pub opl-part-seen : 2 ≤ getD header 5 0 → (k : ℕ) → getD header 7 0 / 2 ^ k % 2 ≡ 1 → OddIn (now (a .0)) (now (b .0)) k → PartSeenIn header n (now (t .1 .0)) k
+    opl-part-seen above k set d =
+        into-part-seen (now (a .0)) (now (a .1 .0)) r header did zero above (now (b .0)) (now (b .1 .0)) n (now (t .1 .0)) k set d room p
 
-  -- bit k of byte 7 is set exactly where generator and parity bit of part k both agree
-  pub opl-parity-means : getD header 5 0 ≡ 2 → (k : ℕ) → k < 4 → (getD header 7 0 / 2 ^ k % 2 ≡ 1) ↔ Sound (received (now (a .0)) k)
-  opl-parity-means two = into-means (now (a .0)) (now (a .1 .0)) r header did zero two
+  -- of types 2 and 3 bit k of byte 7 is set exactly where generator and parity bit of part k both agree
+  pub opl-parity-means : 2 ≤ getD header 5 0 → (k : ℕ) → k < 4 → (getD header 7 0 / 2 ^ k % 2 ≡ 1) ↔ Sound (received (now (a .0)) k)
+  opl-parity-means above = into-means (now (a .0)) (now (a .1 .0)) r header did zero above

@@ -9,6 +9,7 @@ use denote.Ref.{now}
 use denote.Triple.Clauses.{AtExit}
 use lib.ListN.{length}
 use Rattle.ground.proofs.Outcome.{agree}
+use lib.Bits.{bitXor}
 use Rattle.bits.specs.Sums.{summed}
 use Rattle.fields.specs.Report.{readRefusal}
 use Rattle.payload.proofs.Answers.{into-refused}
@@ -44,7 +45,7 @@ module _ (κs : Lfts 2) (a : ArgsD opl-encode.signature κs) (r : ResD opl-encod
     opl-encode-sums da db dc = sum-sent (call κs a r s) (call κt b q t) (call κu c z u) da db dc
 
 -- after two calls opl_payload_write(kind, id, count, payload, null, word) that answered 0, opl_payload_read(word, header) with 16 bytes refuses the sum of the two
--- words with 5, and nothing is touched
+-- words with 5, and nothing is touched, unless one is of type 1 and the other of type 2
 pub opl-read-refuses-sum : (κs : Lfts 3) (a : ArgsD opl-payload-write.signature κs) (r : ResD opl-payload-write.signature κs)
     (s : AtExit (endedOf 3 opl-payload-write-kinds.ps opl-payload-write-kinds.r) κs)
     (κt : Lfts 3) (b : ArgsD opl-payload-write.signature κt) (q : ResD opl-payload-write.signature κt)
@@ -52,11 +53,11 @@ pub opl-read-refuses-sum : (κs : Lfts 3) (a : ArgsD opl-payload-write.signature
     (κu : Lfts 2) (c : ArgsD opl-payload-read.signature κu) (n : ResD opl-payload-read.signature κu)
     (u : AtExit (endedOf 2 opl-payload-read-kinds.ps opl-payload-read-kinds.r) κu)
     → opl-payload-write-reads.Post κs a r s → r ≡ 0 → opl-payload-write-reads.Post κt b q t → q ≡ 0
-    → now (c .0) ≡ summed (now (s .1 .1 .1 .1 .1 .0)) (now (t .1 .1 .1 .1 .1 .0)) → length (now (c .1 .0)) ≡ 16 → opl-payload-read-reads.Post κu c n u
+    → (bitXor (a .0) (b .0) ≡ 3 → ⊥) → now (c .0) ≡ summed (now (s .1 .1 .1 .1 .1 .0)) (now (t .1 .1 .1 .1 .1 .0)) → length (now (c .1 .0)) ≡ 16 → opl-payload-read-reads.Post κu c n u
     → (n ≡ 5) × (now (u .1 .0) ≡ now (c .1 .0))
-opl-read-refuses-sum κs a r s κt b q t κu c n u did zr did' zq e l p =
+opl-read-refuses-sum κs a r s κt b q t κu c n u did zr did' zq m e l p =
     agree p (into-refused (now (c .0)) (now (c .1 .0)) l 5
     (written-sum-refused (a .0) (a .1 .0) (a .1 .1 .0) (now (a .1 .1 .1 .0)) (now (a .1 .1 .1 .1 .0)) (now (a .1 .1 .1 .1 .1 .0)) r (now (s .1 .1 .1 .1 .1 .0)) (did .0) zr (did .1)
-    (b .0) (b .1 .0) (b .1 .1 .0) (now (b .1 .1 .1 .0)) (now (b .1 .1 .1 .1 .0)) (now (b .1 .1 .1 .1 .1 .0)) q (now (t .1 .1 .1 .1 .1 .0)) (did' .0) zq (did' .1)
+    (b .0) (b .1 .0) (b .1 .1 .0) (now (b .1 .1 .1 .0)) (now (b .1 .1 .1 .1 .0)) (now (b .1 .1 .1 .1 .1 .0)) q (now (t .1 .1 .1 .1 .1 .0)) (did' .0) zq (did' .1) m
     ∙ sym (ap readRefusal e))
     (omega arith))

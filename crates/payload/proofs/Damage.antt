@@ -7,7 +7,9 @@ use mathlib.Core.Path.{_≡_, refl, sym, ap, ap₂, _∙_, subst}
 use mathlib.Core.List.{List, _++_}
 use native.Mathlib.Decide.{ℕ-discrete}
 use native.Mathlib.Omega.{arith}
+use lib.Dec.{eqb}
 use lib.ListN.{length, getD, set, length-set}
+use Rattle.ground.specs.Choice.{both}
 use lib.Seq.{ext-getD, getD-set-same, getD-set-other}
 use Rattle.ground.specs.Table.{tab}
 use Rattle.ground.proofs.Table.{length-tab, getD-tab, tab-cong}
@@ -20,10 +22,10 @@ use Rattle.parity.specs.Part.{parityHolds, received, heldOf}
 use Rattle.parity.proofs.Sound.{odd-seen}
 use Rattle.parity.proofs.Received.{received-bits}
 use Rattle.parity.proofs.Which.{held-set, held-less}
-use Rattle.infoword.specs.Suffix.{kindOf, covered, coveredOf, headerCrc, rfuBits, rfuOf}
-use Rattle.infoword.proofs.Closing.{covered-2, covered-other, covered-run}
-use Rattle.infoword.proofs.Ending.{rfu-2}
-use Rattle.fields.specs.Report.{readRefusal}
+use Rattle.infoword.specs.Suffix.{kindOf, hasParity, covered, coveredOf, headerCrc, leadBits, rfuBits, rfuOf}
+use Rattle.infoword.proofs.Closing.{by-parity, covered-long, covered-short, covered-run}
+use Rattle.infoword.proofs.Ending.{lead-long, rfu-most}
+use Rattle.fields.specs.Report.{noHeaderAt, readRefusal}
 use Rattle.payload.specs.Damage.{OneBit, OddIn}
 use Rattle.fields.proofs.Faults.{Readable, read-5}
 
@@ -39,11 +41,7 @@ same-field w v from same at n h l =
 
 -- no more than 46 bits are covered
 pub covered-most : (kind : ℕ) → covered kind ≤ 46
-covered-most kind =
-    elim (ℕ-discrete kind 2) [
-      | yes e ↦ omega (arith, covered-2 kind e)
-      | no n ↦ omega (arith, covered-other kind n)
-    ]
+covered-most kind = by-parity kind (λ e. omega (arith, covered-long kind e)) (λ e. omega (arith, covered-short kind e))
 
 -- two words that differ in one covered bit, and have as many of them
 module _ (w v : List ℕ) (i : ℕ) (d : OneBit w v i) (span : covered (kindOf v) ≡ covered (kindOf w)) where
@@ -129,25 +127,27 @@ module _ (w v : List ℕ) (k : ℕ) (d : OddIn w v k) where
       held-less w v k (d .part) t (odd-seen (received w k) (received v k) (received-bits w k) (received-bits v k) t (d .odd))
       (λ j l n. ap parityHolds (same-part j l n))
 
-  -- a word of type 2 that was accepted still is
-  pub still-readable : Readable w → kindOf w ≡ 2 → Readable v
-  still-readable a two =
+  -- a word of type 2 or 3 that was accepted still is
+  pub still-readable : Readable w → hasParity (kindOf w) ≡ true → Readable v
+  still-readable a has =
       let kind : kindOf v ≡ kindOf w = same-behind 12268 3 (omega arith) (omega arith) in
       let span : coveredOf v ≡ coveredOf w =
-      covered-run v 46 (ap covered kind ∙ covered-2 (kindOf w) two)
-      ∙ tab-cong (bitAt v) (bitAt w) 12228 46 (λ i l. behind (12228 + i) (omega arith)) ∙ sym (covered-run w 46 (covered-2 (kindOf w) two)) in
+      covered-run v 46 (ap covered kind ∙ covered-long (kindOf w) has)
+      ∙ tab-cong (bitAt v) (bitAt w) 12228 46 (λ i l. behind (12228 + i) (omega arith)) ∙ sym (covered-run w 46 (covered-long (kindOf w) has)) in
       record {
         word-is = d .long;
         spare-is = same-behind 12282 6 (omega arith) (omega arith) ∙ a .spare-is;
         crc-is = same-behind 12274 8 (omega arith) (omega arith) ∙ a .crc-is ∙ ap headerCrc (sym span);
         version-is = same-behind 12271 3 (omega arith) (omega arith) ∙ a .version-is;
         kind-is = rw kind (a .kind-is);
+        address-is = ap₂ (λ (k x : ℕ). both (eqb k 3) (noHeaderAt x)) kind (same-behind 12248 12 (omega arith) (omega arith)) ∙ a .address-is;
       }
 
-  pub same-rfu : kindOf w ≡ 2 → rfuOf v ≡ rfuOf w
+  pub same-rfu : hasParity (kindOf w) ≡ true → rfuOf v ≡ rfuOf w
   unfolding rfuOf
-  same-rfu two =
+  same-rfu has =
       let kind : kindOf v ≡ kindOf w = same-behind 12268 3 (omega arith) (omega arith) in
-      let r : rfuBits (kindOf w) ≡ 32 = rfu-2 (kindOf w) two in
-      ap (λ (x : ℕ). fieldAt v (12260 - rfuBits x) (rfuBits x)) kind ∙ ap (λ (x : ℕ). fieldAt v (12260 - x) x) r
-      ∙ same-behind 12228 32 (omega arith) (omega arith) ∙ sym (ap (λ (x : ℕ). fieldAt w (12260 - x) x) r)
+      let n : ℕ = rfuBits (kindOf w) in
+      let r : leadBits (kindOf w) ≡ 32 = lead-long (kindOf w) has in
+      ap (λ (x : ℕ). fieldAt v (12260 - leadBits x) (rfuBits x)) kind ∙ ap (λ (x : ℕ). fieldAt v (12260 - x) n) r
+      ∙ same-behind 12228 n (rfu-most (kindOf w)) (omega arith) ∙ sym (ap (λ (x : ℕ). fieldAt w (12260 - x) n) r)

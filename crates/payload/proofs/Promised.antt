@@ -1,26 +1,29 @@
 -- Theorems about the functions' own promises: what is read after a write, what is written after a reading, and what is read of a word with a
 -- damaged header or a damaged part. That a stream id and the bytes of a word are bytes, the promises hand out.
 -- Assumes nothing.
-use Prim.Native.Nat.{ℕ, _+_, _/_, _%_, _^_, _<_}
-use mathlib.Core.Path.{_≡_, refl, sym, ap, _∙_}
+use Prim.Native.Nat.{ℕ, _+_, _/_, _%_, _^_, _≤_, _<_}
+use mathlib.Core.Bool.{true}
+use mathlib.Core.Path.{_≡_, refl, sym, ap, ap₂, _∙_}
 use mathlib.Core.Logic.{_↔_}
 use mathlib.Core.List.{List}
 use native.Mathlib.Omega.{arith}
 use contract.Lifetimes.{Lfts}
-use borrow.Author.Tests.{eq-eqb}
 use borrow.Fn.World.{ArgsD, ResD}
 use borrow.Fn.Kinds.{endedOf}
 use denote.Ref.{now}
 use denote.Triple.Clauses.{AtExit}
+use lib.Dec.{eqb}
 use lib.ListN.{length, take, drop}
+use Rattle.ground.specs.Choice.{choose}
 use Rattle.ground.proofs.Choice.{choose-true}
 use Rattle.parity.specs.Part.{received, heldOf}
 use Rattle.parity.specs.Claims.{Sound}
 use Rattle.parity.proofs.Sound.{meaning}
 use Rattle.parity.proofs.Received.{received-bits}
 use Rattle.parity.proofs.Which.{held-set, held-true}
-use Rattle.infoword.specs.Suffix.{kindOf, covered}
-use Rattle.infoword.proofs.Written.{packet-2}
+use Rattle.infoword.specs.Suffix.{kindOf, hasParity, covered}
+use Rattle.infoword.proofs.Closing.{has-2, has-from}
+use Rattle.infoword.proofs.Written.{packet-long}
 use Rattle.encapsulation.specs.Writing.{packetOf}
 use Rattle.encapsulation.proofs.write as write
 use Rattle.encapsulation.proofs.write.Kinds as write-kinds
@@ -80,13 +83,14 @@ module _ (κs : Lfts 3) (a : ArgsD write.signature κs) (r : ResD write.signatur
       header-after kind id (a .1 .1 .0) (now (a .1 .1 .1 .0)) (now (a .1 .1 .1 .1 .0)) (now (a .1 .1 .1 .1 .1 .0)) r left (did .0) zero (did .1)
       (now (b .0)) (now (b .1 .0)) (now (t .1 .0)) n e l p
 
-  -- a word of 1,536 bytes that differs from it in one of the header bits that the CRC covers alone, be it of the stream type, is refused with 5
+  -- a word of 1,536 bytes that differs from it in one of the header bits that the CRC covers alone, be it of the stream type, is refused with 5,
+  -- unless the change makes type 3 of type 1: there the CRC covers what was payload
   pub refused-where-sent-damaged : (κt : Lfts 1) (b : ArgsD read.signature κt) (k : ResD read.signature κt) (t : AtExit (endedOf 1 read-kinds.ps read-kinds.r) κt) (i : ℕ)
-      → OneBit left (now (b .0)) i → read-reads.Post κt b k t → k ≡ Refused 5
-  refused-where-sent-damaged κt b k t i d p =
+      → OneBit left (now (b .0)) i → (kind ≡ 1 → kindOf (now (b .0)) ≡ 3 → ⊥) → read-reads.Post κt b k t → k ≡ Refused 5
+  refused-where-sent-damaged κt b k t i d n p =
       told-inj k (Refused 5)
       (p .0 ∙ sym (tells-refusal (now (b .0)) 5
-      (written-damaged kind id (a .1 .1 .0) (now (a .1 .1 .1 .0)) (now (a .1 .1 .1 .1 .0)) (now (a .1 .1 .1 .1 .1 .0)) r left (did .0) zero (did .1) (now (b .0)) i d) (omega arith)))
+      (written-damaged kind id (a .1 .1 .0) (now (a .1 .1 .1 .0)) (now (a .1 .1 .1 .1 .0)) (now (a .1 .1 .1 .1 .1 .0)) r left (did .0) zero (did .1) (now (b .0)) i d n) (omega arith)))
 
 -- after a call read(word) that gave a header
 module _ (κs : Lfts 1) (a : ArgsD read.signature κs) (r : ResD read.signature κs) (s : AtExit (endedOf 1 read-kinds.ps read-kinds.r) κs)
@@ -101,9 +105,9 @@ module _ (κs : Lfts 1) (a : ArgsD read.signature κs) (r : ResD read.signature 
   unfolding headerOf
   kind-is = ap (λ (x : Header). x .kind) (facts .1)
 
-  -- with RFU 0: a write of its stream type, its stream id and of what payload_of(word) gave, of type 2 as eight packets, into 1,536 bytes
+  -- of type 0, 1 or 2 and with RFU 0: a write of its stream type, its stream id and of what payload_of(word) gave, of type 2 as eight packets, into 1,536 bytes
   -- answers 0 and leaves the same last four bytes; and the same word for type 1, and for type 2 where all four parts hold
-  pub write-after-read : h .rfu ≡ 0
+  pub write-after-read : h .kind ≤ 2 → h .rfu ≡ 0
       → (κt : Lfts 1) (b : ArgsD payload-of.signature κt) (q : ResD payload-of.signature κt) (t : AtExit (endedOf 1 payload-of-kinds.ps payload-of-kinds.r) κt)
       (κu : Lfts 3) (c : ArgsD write.signature κu) (n : ResD write.signature κu) (u : AtExit (endedOf 3 write-kinds.ps write-kinds.r) κu)
       → now (b .0) ≡ word → payload-of-reads.Post κt b q t
@@ -112,12 +116,12 @@ module _ (κs : Lfts 1) (a : ArgsD read.signature κs) (r : ResD read.signature 
       → (n ≡ 0) × (drop 1532 (now (u .1 .1 .1 .1 .1 .0)) ≡ drop 1532 word) × (c .0 ≡ 1 → now (u .1 .1 .1 .1 .1 .0) ≡ word)
       × (c .0 ≡ 2 → h .parity ≡ 15 → now (u .1 .1 .1 .1 .1 .0) ≡ word)
   unfolding headerOf holdingOf
-  write-after-read z κt b q t κu c n u same showed ek ei ec ep one len did =
+  write-after-read low z κt b q t κu c n u same showed ek ei ec ep one len did =
       let f : h ≡ headerOf word = facts .1 in
-      let g = write-again word (readable word (sym (facts .0))) (saw .1) (sym (ap (λ (x : Header). x .rfu) f) ∙ z)
+      let g = write-again word (readable word (sym (facts .0))) (saw .1) (rw (sym kind-is) low) (sym (ap (λ (x : Header). x .rfu) f) ∙ z)
       (c .0) (c .1 .0) (c .1 .1 .0) (now (c .1 .1 .1 .0)) (now (c .1 .1 .1 .1 .0)) (now (c .1 .1 .1 .1 .1 .0)) n (now (u .1 .1 .1 .1 .1 .0))
       (ek ∙ kind-is) (ei ∙ ap (λ (x : Header). x .id) f) (ep ∙ showed ∙ ap shown same) ec one len (did .0) in
-      (g .0, g .1, g .2, λ two p. g .3 two (sym (choose-true (heldOf word) 0 (eq-eqb (kindOf word) 2 (sym (ek ∙ kind-is) ∙ two))) ∙ sym (ap (λ (x : Header). x .parity) f) ∙ p))
+      (g .0, g .1, g .2, λ two p. g .3 two (sym (choose-true (heldOf word) 0 (has-2 (kindOf word) (sym (ek ∙ kind-is) ∙ two))) ∙ sym (ap (λ (x : Header). x .parity) f) ∙ p))
 
   -- a word of 1,536 bytes that differs from it in one of the header bits that the CRC covers alone is refused with 5, where its stream type
   -- has as many of them
@@ -126,14 +130,14 @@ module _ (κs : Lfts 1) (a : ArgsD read.signature κs) (r : ResD read.signature 
   refused-where-damaged κt b k t i d span p =
       told-inj k (Refused 5) (p .0 ∙ sym (tells-refusal (now (b .0)) 5 (damaged word (now (b .0)) i d span (readable word (sym (facts .0)))) (omega arith)))
 
-  -- of stream type 2
-  module _ (two : h .kind ≡ 2) where
-    of-2 : kindOf word ≡ 2
-    of-2 = sym kind-is ∙ two
+  -- of stream types 2 and 3
+  module _ (above : 2 ≤ h .kind) where
+    has : hasParity (kindOf word) ≡ true
+    has = has-from (kindOf word) (omega (arith, above, kind-is)) (readable word (sym (facts .0)) .kind-is)
 
     parity-is : h .parity ≡ heldOf word
     unfolding headerOf holdingOf
-    parity-is = ap (λ (x : Header). x .parity) (facts .1) ∙ choose-true (heldOf word) 0 (eq-eqb (kindOf word) 2 of-2)
+    parity-is = ap (λ (x : Header). x .parity) (facts .1) ∙ choose-true (heldOf word) 0 has
 
     -- part k is reported as holding exactly where generator and parity bit both agree
     pub parity-means : (k : ℕ) → k < 4 → (h .parity / 2 ^ k % 2 ≡ 1) ↔ Sound (received word k)
@@ -142,10 +146,10 @@ module _ (κs : Lfts 1) (a : ArgsD read.signature κs) (r : ResD read.signature 
         let e : h .parity / 2 ^ k % 2 ≡ heldOf word / 2 ^ k % 2 = ap (λ (x : ℕ). x / 2 ^ k % 2) parity-is in
         (λ t. m .0 (held-set word k l (sym e ∙ t)), λ t. e ∙ held-true word k l (m .1 t))
 
-    -- the packets are shown as they were received, whatever the parity says
+    -- the payload is shown as it was received, whatever the parity says
     pub packets-shown : (κt : Lfts 1) (b : ArgsD payload-of.signature κt) (q : ResD payload-of.signature κt)
         (t : AtExit (endedOf 1 payload-of-kinds.ps payload-of-kinds.r) κt) → now (b .0) ≡ word → payload-of-reads.Post κt b q t → now q ≡ take 1504 word
-    packets-shown κt b q t e p = p ∙ ap shown e ∙ sym (shows word 1504 (facts .0) (sym (packet-2 (kindOf word) of-2)))
+    packets-shown κt b q t e p = p ∙ ap shown e ∙ sym (shows word 1504 (facts .0) (sym (packet-long (kindOf word) has)))
 
     -- where part k holds, a word with an odd number of other bits of that part alone is accepted with the same fields, and just part k is
     -- reported as not holding
@@ -154,16 +158,17 @@ module _ (κs : Lfts 1) (a : ArgsD read.signature κs) (r : ResD read.signature 
     unfolding headerOf holdingOf
     part-seen κt b q t k set d p =
         let v : List ℕ = now (b .0) in
-        let sound : Readable v = still-readable word v k d (readable word (sym (facts .0))) of-2 in
+        let sound : Readable v = still-readable word v k d (readable word (sym (facts .0))) has in
         let kind-v : kindOf v ≡ kindOf word = same-behind word v k d 12268 3 (omega arith) (omega arith) in
-        let held-v : holdingOf v ≡ heldOf v = choose-true (heldOf v) 0 (eq-eqb (kindOf v) 2 (kind-v ∙ of-2)) in
+        let held-v : holdingOf v ≡ heldOf v = choose-true (heldOf v) 0 (ap hasParity kind-v ∙ has) in
         record {
           now = headerOf v;
           read = told-inj q (Accepted (headerOf v)) (p .0 ∙ sym (tells-header v (headerOf v) (read-0 v sound) refl));
-          rfu = same-rfu word v k d of-2 ∙ sym (ap (λ (x : Header). x .rfu) (facts .1));
+          rfu = same-rfu word v k d has ∙ sym (ap (λ (x : Header). x .rfu) (facts .1));
           id = same-behind word v k d 12260 8 (omega arith) (omega arith) ∙ sym (ap (λ (x : Header). x .id) (facts .1));
           kind = kind-v ∙ sym kind-is;
           version = same-behind word v k d 12271 3 (omega arith) (omega arith) ∙ sym (ap (λ (x : Header). x .version) (facts .1));
           parity = ap (λ (x : ℕ). x + 2 ^ k) held-v ∙ part-fails word v k d (sym (ap (λ (x : ℕ). x / 2 ^ k % 2) parity-is) ∙ set) ∙ sym parity-is;
-          address = sym (ap (λ (x : Header). x .address) (facts .1));
+          address =
+              ap₂ (λ (x y : ℕ). choose (eqb x 3) y 0) kind-v (same-behind word v k d 12248 12 (omega arith) (omega arith)) ∙ sym (ap (λ (x : Header). x .address) (facts .1));
         }

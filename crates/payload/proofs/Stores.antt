@@ -9,7 +9,7 @@ use lib.Seq.{take-all, take-at, length-take-le}
 use Rattle.bits.specs.Lists.{bits, pack}
 use Rattle.bits.proofs.Lists.{pack-length}
 use Rattle.bits.proofs.Numbers.{pack-16, pack-32}
-use Rattle.payload.specs.Answers.{headerBytes}
+use Rattle.payload.specs.Answers.{headerWith}
 use Rattle.fields.specs.declared.Header.{Header}
 
 -- four bytes at a place end what stands before them
@@ -34,25 +34,24 @@ sixteen l l1 l2 l3 l4 a b c d n1 n2 n3 n4 e1 e2 e3 e4 =
     ∙ ap (λ (x : List ℕ). x ++ pack 4 (bits 32 b) ++ pack 4 (bits 32 c) ++ pack 4 (bits 32 d)) (put-at l l1 (pack 4 (bits 32 a)) 0 (four-long a) (omega arith) e1)
 
 -- the header's fields in them
-pub sixteen-are : (h : Header) → h .id < 256 → h .kind < 256 → h .version < 256 → h .parity < 256 → h .address < 65536
-    → pack 4 (bits 32 (h .rfu)) ++ pack 4 (bits 32 (h .id * 0x1000000 + h .kind * 0x10000 + h .version * 0x100 + h .parity)) ++ pack 4 (bits 32 (h .address * 0x10000)) ++ pack 4 (bits 32 0) ≡ headerBytes h
-unfolding headerBytes
-sixteen-are h i k v p a =
+pub sixteen-are : (h : Header) (n : ℕ) → h .id < 256 → h .kind < 256 → h .version < 256 → h .parity < 256 → h .address < 65536 → n < 65536
+    → pack 4 (bits 32 (h .rfu)) ++ pack 4 (bits 32 (h .id * 0x1000000 + h .kind * 0x10000 + h .version * 0x100 + h .parity)) ++ pack 4 (bits 32 (h .address * 0x10000 + n)) ++ pack 4 (bits 32 0) ≡ headerWith h n
+unfolding headerWith
+sixteen-are h n i k v p a m =
     let x : ℕ = h .id * 0x1000000 + h .kind * 0x10000 + h .version * 0x100 + h .parity in
-    let y : ℕ = h .address * 0x10000 in
+    let y : ℕ = h .address * 0x10000 + n in
     let x0 : x / 0x1000000 % 256 ≡ h .id = omega arith in
     let x1 : x / 0x10000 % 256 ≡ h .kind = omega arith in
     let x2 : x / 0x100 % 256 ≡ h .version = omega arith in
     let x3 : x % 256 ≡ h .parity = omega arith in
     let y0 : y / 0x1000000 % 256 ≡ h .address / 256 % 256 = omega arith in
     let y1 : y / 0x10000 % 256 ≡ h .address % 256 = omega arith in
-    let y2 : y / 0x100 % 256 ≡ 0 = omega arith in
-    let y3 : y % 256 ≡ 0 = omega arith in
+    let y2 : y / 0x100 % 256 ≡ n / 256 % 256 = omega arith in
+    let y3 : y % 256 ≡ n % 256 = omega arith in
     let second : pack 4 (bits 32 x) ≡ h .id ∷ h .kind ∷ h .version ∷ h .parity ∷ [] = pack-32 x ∙ cc in
-    let third : pack 4 (bits 32 y) ≡ h .address / 256 % 256 ∷ h .address % 256 ∷ 0 ∷ 0 ∷ [] = pack-32 y ∙ cc in
-    let two : pack 2 (bits 16 (h .address)) ++ (0 ∷ 0 ∷ []) ≡ h .address / 256 % 256 ∷ h .address % 256 ∷ 0 ∷ 0 ∷ [] = ap (λ (l : List ℕ). l ++ (0 ∷ 0 ∷ [])) (pack-16 (h .address)) in
+    let third : pack 4 (bits 32 y) ≡ h .address / 256 % 256 ∷ h .address % 256 ∷ n / 256 % 256 ∷ n % 256 ∷ [] = pack-32 y ∙ cc in
+    let two : pack 2 (bits 16 (h .address)) ++ pack 2 (bits 16 n) ≡ h .address / 256 % 256 ∷ h .address % 256 ∷ n / 256 % 256 ∷ n % 256 ∷ [] = ap₂ (λ (l r : List ℕ). l ++ r) (pack-16 (h .address)) (pack-16 n) in
     let front : List ℕ = pack 4 (bits 32 (h .rfu)) ++ (h .id ∷ h .kind ∷ h .version ∷ h .parity ∷ []) in
     ap₂ (λ (s t : List ℕ). pack 4 (bits 32 (h .rfu)) ++ s ++ t ++ pack 4 (bits 32 0)) second (third ∙ sym two)
-    ∙ ap (λ (z : List ℕ). front ++ (pack 2 (bits 16 (h .address)) ++ (0 ∷ 0 ∷ [])) ++ z) (pack-32 0)
-    ∙ ap (λ (z : List ℕ). z ++ (0 ∷ 0 ∷ 0 ∷ 0 ∷ [])) (sym (append-assoc front (pack 2 (bits 16 (h .address))) (0 ∷ 0 ∷ [])))
-    ∙ append-assoc (front ++ pack 2 (bits 16 (h .address))) (0 ∷ 0 ∷ []) (0 ∷ 0 ∷ 0 ∷ 0 ∷ [])
+    ∙ ap (λ (z : List ℕ). front ++ (pack 2 (bits 16 (h .address)) ++ pack 2 (bits 16 n)) ++ z) (pack-32 0)
+    ∙ ap (λ (z : List ℕ). z ++ (0 ∷ 0 ∷ 0 ∷ 0 ∷ [])) (sym (append-assoc front (pack 2 (bits 16 (h .address))) (pack 2 (bits 16 n))))

@@ -1,8 +1,8 @@
 -- One bit of a written word's header that is changed, be it of the stream type, has the word refused: the CRCs over 18 and over 46 bits do
--- not agree where RFU is zero.
+-- not agree where RFU is zero. The one exception is type 1 made type 3.
 -- Assumes nothing.
 use Prim.Native.Nat.{ℕ, _+_, _-_, _*_, _≤_, _<_}
-use mathlib.Core.Bool.{Bool, not}
+use mathlib.Core.Bool.{Bool, true, false, not}
 use mathlib.Core.Path.{_≡_, refl, sym, ap, ap₂, _∙_, subst}
 use mathlib.Core.List.{List}
 use native.Mathlib.Decide.{decLt, ℕ-discrete}
@@ -19,9 +19,9 @@ use Rattle.bits.specs.Lists.{bits}
 use Rattle.bits.specs.Places.{bitAt, number, fieldAt}
 use Rattle.bits.proofs.Places.{bit-lt, number-cong, field-is, field-lt}
 use Rattle.crc.specs.Crc.{clock, clocks}
-use Rattle.infoword.specs.Suffix.{idOf, kindOf, versionOf, crcFieldOf, rfuOf, covered, coveredOf, headerCrc, header}
-use Rattle.infoword.proofs.Ending.{rfu-2, rfu-other}
-use Rattle.infoword.proofs.Closing.{covered-other}
+use Rattle.infoword.specs.Suffix.{idOf, kindOf, versionOf, crcFieldOf, hasParity, rfuOf, covered, coveredOf, headerCrc, header}
+use Rattle.infoword.proofs.Ending.{lead-long, lead-short}
+use Rattle.infoword.proofs.Closing.{has-2, has-3, has-not, covered-long, covered-short}
 use Rattle.infoword.proofs.Again.{last-four}
 use Rattle.infoword.specs.Word.{packetBytes, frontBytes, wordOf}
 use Rattle.infoword.proofs.Written.{packet-le, kind-back, rfu-back, zeros-back}
@@ -35,9 +35,9 @@ use Rattle.payload.proofs.WaysBack.{read-back}
 use Rattle.payload.proofs.Damage.{same-field, damaged}
 use Rattle.payload.proofs.Registers.{before, behind, register, of-46, of-18, behind-lt, covered-of}
 
--- over 46 bits with type 2 it is another than over 18 with each type that differs from 2 in one bit, whatever the stream id
+-- over 46 bits with type 2 it is another than over 18 with types 0 and 6, which differ from 2 in one bit, whatever the stream id
 differ : ℕ → ℕ → Bool
-differ x r = both (not (eqb x (behind r 0))) (both (not (eqb x (behind r 3))) (not (eqb x (behind r 6))))
+differ x r = both (not (eqb x (behind r 0))) (not (eqb x (behind r 6)))
 
 apart : ℕ → Bool
 apart id = differ (behind (before 0xED id) 2) (before 0x6A id)
@@ -52,9 +52,9 @@ data Near (kind : ℕ) : Type 0 where
   to-3 : kind ≡ 3 → Near kind
   to-6 : kind ≡ 6 → Near kind
 
-types-apart : (id kind : ℕ) → id < 256 → Near kind → headerCrc (header (bits 32 0) id 2 0) ≡ headerCrc (header (bits 4 0) id kind 0) → ⊥
+types-apart : (id kind : ℕ) → id < 256 → Near kind → (kind ≡ 3 → ⊥) → headerCrc (header (bits 32 0) id 2 0) ≡ headerCrc (header (bits 4 0) id kind 0) → ⊥
 unfolding apart differ
-types-apart id kind h near e =
+types-apart id kind h near other e =
     let x : ℕ = behind (before 0xED id) 2 in
     let t : T (apart id) = at-all apart 256 all-apart id h in
     let y : (k : ℕ) → kind ≡ k → x ≡ behind (before 0x6A id) k =
@@ -64,12 +64,11 @@ types-apart id kind h near e =
     ∙ register 4 id k ∙ ap (λ (r : ℕ). 255 - behind (before r id) k) of-18 in
     omega (arith, z, behind-lt 0xED id 2 (omega arith), behind-lt 0x6A id k (omega arith)) in
     let p : ℕ = behind (before 0x6A id) 0 in
-    let q : ℕ = behind (before 0x6A id) 3 in
     let r : ℕ = behind (before 0x6A id) 6 in
     elim near [
-      | to-0 k ↦ never x p (both-left (not (eqb x p)) (both (not (eqb x q)) (not (eqb x r))) t) (y 0 k)
-      | to-3 k ↦ never x q (both-left (not (eqb x q)) (not (eqb x r)) (both-right (not (eqb x p)) (both (not (eqb x q)) (not (eqb x r))) t)) (y 3 k)
-      | to-6 k ↦ never x r (both-right (not (eqb x q)) (not (eqb x r)) (both-right (not (eqb x p)) (both (not (eqb x q)) (not (eqb x r))) t)) (y 6 k)
+      | to-0 k ↦ never x p (both-left (not (eqb x p)) (not (eqb x r)) t) (y 0 k)
+      | to-3 k ↦ other k
+      | to-6 k ↦ never x r (both-right (not (eqb x p)) (not (eqb x r)) t) (y 6 k)
     ]
   where
     never : (a b : ℕ) → T (not (eqb a b)) → a ≡ b → ⊥
@@ -111,8 +110,27 @@ near-2 x y o two =
     three : (a b c a' b' c' : ℕ) → c < 2 → a' < 2 → b' < 2 → c' < 2 → (a' * 2 + b') * 2 + c' ≡ 2 → a ≡ a' → b ≡ b' → (c ≡ c' → ⊥) → (a * 2 + b) * 2 + c ≡ 3
     three a b c a' b' c' h i j k e p q r = omega arith
 
--- two words that differ in one covered bit, of which the first has zeros from bit 12,228 to STS_ID, unless it is of type 1
-module _ (w v : List ℕ) (i : ℕ) (d : OneBit w v i) (a : Readable w) (zero : (kindOf w ≡ 1 → ⊥) → fieldAt w 12228 32 ≡ 0) where
+-- types 0 and 3 differ in two bits
+not-0-and-3 : (x y : List ℕ) → OneOff x y → kindOf x ≡ 3 → kindOf y ≡ 0 → ⊥
+not-0-and-3 x y o three none =
+    let t : (bitAt x 12268 * 2 + bitAt x 12269) * 2 + bitAt x 12270 ≡ 3 = sym (kind-bits x) ∙ three in
+    let u : (bitAt y 12268 * 2 + bitAt y 12269) * 2 + bitAt y 12270 ≡ 0 = sym (kind-bits y) ∙ none in
+    elim o [
+      | in-first p q r ↦ one _ _ _ _ _ _ (bit-lt x 12268) (bit-lt x 12269) (bit-lt x 12270) t u r
+      | in-second p q r ↦ one _ _ _ _ _ _ (bit-lt x 12268) (bit-lt x 12269) (bit-lt x 12270) t u r
+      | in-third p q r ↦ two _ _ _ _ _ _ (bit-lt x 12268) (bit-lt x 12269) (bit-lt x 12270) t u q
+    ]
+  where
+    one : (a b c a' b' c' : ℕ) → a < 2 → b < 2 → c < 2 → (a * 2 + b) * 2 + c ≡ 3 → (a' * 2 + b') * 2 + c' ≡ 0 → c ≡ c' → ⊥
+    one a b c a' b' c' h i j t u e = let z : a ≡ 0 = omega arith in omega arith
+
+    two : (a b c a' b' c' : ℕ) → a < 2 → b < 2 → c < 2 → (a * 2 + b) * 2 + c ≡ 3 → (a' * 2 + b') * 2 + c' ≡ 0 → b ≡ b' → ⊥
+    two a b c a' b' c' h i j t u e = let z : a ≡ 0 = omega arith in omega arith
+
+-- two words that differ in one covered bit, of which the first is of type 0, 1 or 2, and has zeros from bit 12,228 to STS_ID, unless it is
+-- of type 1. Of type 1 what stands there is payload, and with type 3 the CRC covers it: that the change is none from 1 to 3 is asked for
+module _ (w v : List ℕ) (i : ℕ) (d : OneBit w v i) (a : Readable w) (of : kindOf w ≤ 2) (zero : (kindOf w ≡ 1 → ⊥) → fieldAt w 12228 32 ≡ 0)
+    (not-to-3 : kindOf w ≡ 1 → kindOf v ≡ 3 → ⊥) where
   place : ℕ
   place = 12274 - covered (kindOf w) + i
 
@@ -182,35 +200,44 @@ module _ (w v : List ℕ) (i : ℕ) (d : OneBit w v i) (a : Readable w) (zero : 
     left-2 : kindOf w ≡ 2 → crcFieldOf v ≡ headerCrc (coveredOf v) → ⊥
     left-2 two e =
         let z : fieldAt w 12228 32 ≡ 0 = zero (λ t. omega (arith, t, two)) in
+        let long : hasParity (kindOf w) ≡ true = has-2 (kindOf w) two in
         let not-2 : kindOf v ≡ 2 → ⊥ = λ t. span (ap covered (t ∙ sym two)) in
+        let not-3 : kindOf v ≡ 3 → ⊥ = λ t. span (covered-long (kindOf v) (has-3 (kindOf v) t) ∙ sym (covered-long (kindOf w) long)) in
+        let short : hasParity (kindOf v) ≡ false = has-not (kindOf v) not-2 not-3 in
         let x : coveredOf w ≡ header (bits 32 0) (idOf w) 2 0 =
-        covered-of w 32 (a .word-is) (rfu-2 (kindOf w) two) z (a .version-is) ∙ ap (λ (k : ℕ). header (bits 32 0) (idOf w) k 0) two in
+        covered-of w 32 (a .word-is) (lead-long (kindOf w) long) z (a .version-is) ∙ ap (λ (k : ℕ). header (bits 32 0) (idOf w) k 0) two in
         let y : coveredOf v ≡ header (bits 4 0) (idOf w) (kindOf v) 0 =
-        covered-of v 4 (d .long) (rfu-other (kindOf v) not-2) (before-it 12256 4 (omega arith) (omega arith) ∙ last-four w z) version-v
+        covered-of v 4 (d .long) (lead-short (kindOf v) short) (before-it 12256 4 (omega arith) (omega arith) ∙ last-four w z) version-v
         ∙ ap (λ (k : ℕ). header (bits 4 0) k (kindOf v) 0) id-same in
-        types-apart (idOf w) (kindOf v) id-lt (near-2 v w one-off two) (ap headerCrc (sym x) ∙ sym crc-v ∙ e ∙ ap headerCrc y)
+        types-apart (idOf w) (kindOf v) id-lt (near-2 v w one-off two) not-3 (ap headerCrc (sym x) ∙ sym crc-v ∙ e ∙ ap headerCrc y)
 
     -- and into it
     into-2 : (kindOf w ≡ 2 → ⊥) → crcFieldOf v ≡ headerCrc (coveredOf v) → ⊥
     into-2 not-2 e =
+        let short : hasParity (kindOf w) ≡ false = has-not (kindOf w) not-2 (λ t. omega (arith, of, t)) in
+        let not-3 : kindOf v ≡ 3 → ⊥ =
+        λ t. not-0-and-3 v w one-off t (dummy-of (kindOf w) of not-2 (λ one. not-to-3 one t)) in
         let two : kindOf v ≡ 2 =
         elim (ℕ-discrete (kindOf v) 2) [
           | yes t ↦ t
-          | no t ↦ absurd (span (covered-other (kindOf v) t ∙ sym (covered-other (kindOf w) not-2)))
+          | no t ↦ absurd (span (covered-short (kindOf v) (has-not (kindOf v) t not-3) ∙ sym (covered-short (kindOf w) short)))
         ] in
-        let dummy : kindOf w ≡ 0 = first (kindOf w) (near-2 w v (one-off-back v w one-off) two) (a .kind-is) in
+        let dummy : kindOf w ≡ 0 = first (kindOf w) (near-2 w v (one-off-back v w one-off) two) of in
         let z : fieldAt w 12228 32 ≡ 0 = zero (λ t. omega (arith, t, dummy)) in
         let x : coveredOf w ≡ header (bits 4 0) (idOf w) 0 0 =
-        covered-of w 4 (a .word-is) (rfu-other (kindOf w) not-2) (last-four w z) (a .version-is) ∙ ap (λ (k : ℕ). header (bits 4 0) (idOf w) k 0) dummy in
+        covered-of w 4 (a .word-is) (lead-short (kindOf w) short) (last-four w z) (a .version-is) ∙ ap (λ (k : ℕ). header (bits 4 0) (idOf w) k 0) dummy in
         let y : coveredOf v ≡ header (bits 32 0) (idOf w) 2 0 =
-        covered-of v 32 (d .long) (rfu-2 (kindOf v) two) (before-it 12228 32 (omega arith) (omega arith) ∙ z) version-v
+        covered-of v 32 (d .long) (lead-long (kindOf v) (has-2 (kindOf v) two)) (before-it 12228 32 (omega arith) (omega arith) ∙ z) version-v
         ∙ ap₂ (λ (j k : ℕ). header (bits 32 0) j k 0) id-same two in
-        types-apart (idOf w) 0 id-lt (to-0 refl) (sym (ap headerCrc (sym x) ∙ sym crc-v ∙ e ∙ ap headerCrc y))
+        types-apart (idOf w) 0 id-lt (to-0 refl) (λ t. omega (arith, t)) (sym (ap headerCrc (sym x) ∙ sym crc-v ∙ e ∙ ap headerCrc y))
       where
         first : (k : ℕ) → Near k → k ≤ 2 → k ≡ 0
         first k (to-0 e) h = e
         first k (to-3 e) h = absurd (omega arith)
         first k (to-6 e) h = absurd (omega arith)
+
+        dummy-of : (k : ℕ) → k ≤ 2 → (k ≡ 2 → ⊥) → (k ≡ 1 → ⊥) → k ≡ 0
+        dummy-of k h m n = omega arith
 
     type-damaged : 5 ≡ readRefusal v
     type-damaged =
@@ -229,9 +256,9 @@ module _ (w v : List ℕ) (i : ℕ) (d : OneBit w v i) (a : Readable w) (zero : 
         | no n ↦ type-damaged n
       ]
 
--- a word that was written is accepted, its RFU is zero, and it has zeros from bit 12,228 to STS_ID, unless it is of type 1
+-- a word that was written is accepted, is of type 0, 1 or 2, its RFU is zero, and it has zeros from bit 12,228 to STS_ID, unless it is of type 1
 pub written-sound : (kind id count : ℕ) (p null word : List ℕ) (r : ℕ) (m : List ℕ) → Is (written kind id count p null word) r m → r ≡ 0 → id < 256
-    → Readable m × (rfuOf m ≡ 0) × ((kindOf m ≡ 1 → ⊥) → fieldAt m 12228 32 ≡ 0)
+    → Readable m × (kind ≤ 2) × (kindOf m ≡ kind) × (rfuOf m ≡ 0) × ((kindOf m ≡ 1 → ⊥) → fieldAt m 12228 32 ≡ 0)
 written-sound kind id count p null word r m o z h =
     let could : Writable kind count (length p) (length null) (length word) = wrote kind id count p null word r m o z in
     let packet : List ℕ = packetOf kind count p null in
@@ -239,13 +266,13 @@ written-sound kind id count p null word r m o z h =
     let size : length packet ≡ packetBytes kind = carried-length kind count p null (length word) could in
     let fit : length packet ≤ frontBytes kind = subst (λ (x : ℕ). x ≤ frontBytes kind) (sym size) (packet-le kind) in
     let small : kind < 8 = omega (arith, could .kind-is) in
-    let kw : kindOf (wordOf kind id packet) ≡ kind = kind-back kind id packet fit small in
-    subst (λ (x : List ℕ). Readable x × (rfuOf x ≡ 0) × ((kindOf x ≡ 1 → ⊥) → fieldAt x 12228 32 ≡ 0)) (sym left)
-    (read-back kind id packet (could .kind-is) h size, rfu-back kind id packet fit small, λ n. zeros-back kind id packet (could .kind-is) size (λ e. n (kw ∙ e)))
+    let kw : kindOf (wordOf kind id packet) ≡ kind = kind-back kind id 0 packet fit small in
+    subst (λ (x : List ℕ). Readable x × (kind ≤ 2) × (kindOf x ≡ kind) × (rfuOf x ≡ 0) × ((kindOf x ≡ 1 → ⊥) → fieldAt x 12228 32 ≡ 0)) (sym left)
+    (read-back kind id packet (could .kind-is) h size, could .kind-is, kw, rfu-back kind id packet fit small (λ e. omega (arith, could .kind-is, e)), λ n. zeros-back kind id packet (could .kind-is) size (λ e. n (kw ∙ e)))
 
--- so that one changed bit of its header has it refused
+-- so that one changed bit of its header has it refused, but for the one that makes type 3 of type 1
 pub written-damaged : (kind id count : ℕ) (p null word : List ℕ) (r : ℕ) (m : List ℕ) → Is (written kind id count p null word) r m → r ≡ 0 → id < 256
-    → (v : List ℕ) (i : ℕ) → OneBit m v i → 5 ≡ readRefusal v
-written-damaged kind id count p null word r m o z h v i d =
+    → (v : List ℕ) (i : ℕ) → OneBit m v i → (kind ≡ 1 → kindOf v ≡ 3 → ⊥) → 5 ≡ readRefusal v
+written-damaged kind id count p null word r m o z h v i d n =
     let s = written-sound kind id count p null word r m o z h in
-    header-damaged m v i d (s .0) (s .2)
+    header-damaged m v i d (s .0) (rw (s .2) (s .1)) (s .4) (λ one. n (sym (s .2) ∙ one))

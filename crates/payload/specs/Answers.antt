@@ -15,7 +15,7 @@ use Rattle.fields.specs.declared.Header.{Header}
 use Rattle.payload.specs.declared.Reading.{Reading}
 use Rattle.payload.specs.declared.Reading.the-variants.{Accepted, Refused}
 
--- what is reported of a word that was written with a stream type and a stream id: of type 2 all four parts hold
+-- what is reported of a word of type 0, 1 or 2 that was written with a stream id: of type 2 all four parts hold
 abbrev pub writtenHeader : ℕ → ℕ → Header
 writtenHeader kind id = record { rfu = 0; id = id; kind = kind; version = 0; parity = choose (eqb kind 2) 15 0; address = 0 }
 
@@ -37,9 +37,18 @@ unfoldable pub shown : List ℕ → List ℕ
 shown w = choose (eqb (readRefusal w) 0) (take (packetBytes (kindOf w)) w) []
 
 -- the header as the C interface has it: RFU as a 32-bit number, stream id, stream type, Encap_Ver, parity, First_Header_Address as a 16-bit
--- number, six zero bytes
-unfoldable pub headerBytes : Header → List ℕ
-headerBytes h = pack 4 (bits 32 (h .rfu)) ++ (h .id ∷ h .kind ∷ h .version ∷ h .parity ∷ []) ++ pack 2 (bits 16 (h .address)) ++ replicate 6 0
+-- number, how many bytes of packets were handed out as another, four zero bytes
+unfoldable pub headerWith : Header → ℕ → List ℕ
+headerWith h handed =
+    pack 4 (bits 32 (h .rfu)) ++ (h .id ∷ h .kind ∷ h .version ∷ h .parity ∷ []) ++ pack 2 (bits 16 (h .address)) ++ pack 2 (bits 16 handed) ++ replicate 4 0
+
+-- where none are handed out
+abbrev pub headerBytes : Header → List ℕ
+headerBytes h = headerWith h 0
+
+-- it is put into 16 bytes
+unfoldable pub headerPut : Header → ℕ → List ℕ → List ℕ
+headerPut h handed out = choose (eqb (length out) 16) (headerWith h handed) out
 
 -- the header read into 16 bytes: their length is looked at with the word's
 unfoldable pub readInto : List ℕ → List ℕ → Outcome ℕ (List ℕ)

@@ -1,4 +1,4 @@
-// Payload words of stream types 0, 1 and 2 (clauses 4.3.1 to 4.3.3), read.
+// Payload words of stream types 0 to 3 (clauses 4.3.1 to 4.3.4), read.
 use fields::Header;
 use ground::LENGTH_WRONG;
 use infoword::STREAM_TYPE;
@@ -9,7 +9,7 @@ ghost use Prim.Native.Nat.{_+_, _≤_};
 ghost use lib.ListN.{length, take, drop};
 ghost use Rattle.ground.specs.Outcome.{Is};
 ghost use Rattle.bits.specs.Lists.{bits, pack, Below};
-ghost use Rattle.payload.specs.Answers.{told, reading, shown, headerBytes, readInto};
+ghost use Rattle.payload.specs.Answers.{told, reading, shown, headerPut, readInto};
 
 // What reading a word gives: this, or the number of its refusal.
 pub enum Reading {
@@ -32,8 +32,8 @@ pub fn read(word: &[u8]) -> Reading
     Reading::Accepted(h)
 }
 
-// The payload of a word that is accepted, a part of the word itself and as it was received: 1,532 bytes for stream type 1, eight packets
-// for type 2, whatever their parity says. Any other word shows an empty part.
+// The payload of a word that is accepted, a part of the word itself and as it was received: 1,532 bytes for stream type 1, 1,504 for types
+// 2 and 3, whatever their parity says. Any other word shows an empty part.
 pub fn payload_of(word: &[u8]) -> &[u8]
     ensures { λ r. ⌜ now r ≡ shown (now (word .entry)) ⌝ }
 {
@@ -58,12 +58,14 @@ fn put32(out: &mut [u8], at: usize, v: u32)
     wide::put(out, sink, v as u64, 32);
 }
 
-// A header in 16 bytes.
-fn put_header(out: &mut [u8], h: Header)
-    requires { ⌜ length (now out) ≡ 16 ⌝ }
-    ensures { λ _. ⌜ now (out .exit) ≡ headerBytes h ⌝ }
+// A header into 16 bytes, with how many bytes of packets were handed out; any other length is left alone.
+pub fn put_header(out: &mut [u8], h: Header, handed: u16)
+    ensures { λ _. ⌜ now (out .exit) ≡ headerPut h handed (now (out .entry)) ⌝ }
 {
-    // RFU; stream id, stream type, Encap_Ver and parity, a byte each; First_Header_Address, two bytes; zeros
+    if out.len() != HEADER {
+        return;
+    }
+    // RFU; stream id, stream type, Encap_Ver and parity, a byte each; First_Header_Address and the bytes handed out, two bytes each; zeros
     put32(out, 0, h.rfu);
     put32(
         out,
@@ -73,7 +75,7 @@ fn put_header(out: &mut [u8], h: Header)
             + h.version as u32 * 0x100
             + h.parity as u32,
     );
-    put32(out, 8, h.address as u32 * 0x10000);
+    put32(out, 8, h.address as u32 * 0x10000 + handed as u32);
     put32(out, 12, 0);
 }
 
@@ -88,7 +90,7 @@ pub fn read_into(word: &[u8], header: &mut [u8]) -> u8
     match h {
         Reading::Refused(n) => n,
         Reading::Accepted(h) => {
-            put_header(header, h);
+            put_header(header, h, 0);
             0
         }
     }

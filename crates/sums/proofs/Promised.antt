@@ -7,6 +7,7 @@ use borrow.Fn.World.{ArgsD, ResD}
 use borrow.Fn.Kinds.{endedOf}
 use denote.Ref.{now}
 use denote.Triple.Clauses.{AtExit}
+use lib.Bits.{bitXor}
 use Rattle.bits.specs.Sums.{summed}
 use Rattle.encapsulation.proofs.write as write
 use Rattle.encapsulation.proofs.write.Kinds as write-kinds
@@ -42,16 +43,17 @@ module _ (κs : Lfts 2) (a : ArgsD encode.signature κs) (r : ResD encode.signat
         → SumSent (call κs a r s) (call κt b q t) (call κu c z u)
     encode-sums da db dc = sum-sent (call κs a r s) (call κt b q t) (call κu c z u) da db dc
 
--- after two calls encapsulation::write(kind, id, count, payload, null, word) that answered 0, payload::read(word) refuses the sum of the two words with 5
+-- after two calls encapsulation::write(kind, id, count, payload, null, word) that answered 0, payload::read(word) refuses the sum of the two words with 5,
+-- unless one is of type 1 and the other of type 2
 pub read-refuses-sum : (κs : Lfts 3) (a : ArgsD write.signature κs) (r : ResD write.signature κs) (s : AtExit (endedOf 3 write-kinds.ps write-kinds.r) κs)
     (κt : Lfts 3) (b : ArgsD write.signature κt) (q : ResD write.signature κt) (t : AtExit (endedOf 3 write-kinds.ps write-kinds.r) κt)
     (κu : Lfts 1) (c : ArgsD read.signature κu) (k : ResD read.signature κu) (u : AtExit (endedOf 1 read-kinds.ps read-kinds.r) κu)
     → write-reads.Post κs a r s → r ≡ 0 → write-reads.Post κt b q t → q ≡ 0
-    → now (c .0) ≡ summed (now (s .1 .1 .1 .1 .1 .0)) (now (t .1 .1 .1 .1 .1 .0)) → read-reads.Post κu c k u → k ≡ Refused 5
-read-refuses-sum κs a r s κt b q t κu c k u did zr did' zq e p =
+    → (bitXor (a .0) (b .0) ≡ 3 → ⊥) → now (c .0) ≡ summed (now (s .1 .1 .1 .1 .1 .0)) (now (t .1 .1 .1 .1 .1 .0)) → read-reads.Post κu c k u → k ≡ Refused 5
+read-refuses-sum κs a r s κt b q t κu c k u did zr did' zq n e p =
     told-inj k (Refused 5)
     (p .0 ∙ sym (tells-refusal (now (c .0)) 5
     (written-sum-refused (a .0) (a .1 .0) (a .1 .1 .0) (now (a .1 .1 .1 .0)) (now (a .1 .1 .1 .1 .0)) (now (a .1 .1 .1 .1 .1 .0)) r (now (s .1 .1 .1 .1 .1 .0)) (did .0) zr (did .1)
-    (b .0) (b .1 .0) (b .1 .1 .0) (now (b .1 .1 .1 .0)) (now (b .1 .1 .1 .1 .0)) (now (b .1 .1 .1 .1 .1 .0)) q (now (t .1 .1 .1 .1 .1 .0)) (did' .0) zq (did' .1)
+    (b .0) (b .1 .0) (b .1 .1 .0) (now (b .1 .1 .1 .0)) (now (b .1 .1 .1 .1 .0)) (now (b .1 .1 .1 .1 .1 .0)) q (now (t .1 .1 .1 .1 .1 .0)) (did' .0) zq (did' .1) n
     ∙ sym (ap readRefusal e))
     (omega arith)))

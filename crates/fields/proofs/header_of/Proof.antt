@@ -1,8 +1,10 @@
 -- `fields::header_of` meets its contract. Assumes nothing.
 use mathlib.Core.Path.{_≡_}
 use native.Mathlib.Omega.{arith}
+use lib.Dec.{eqb}
+use Rattle.ground.specs.Choice.{choose}
 use Rattle.bits.proofs.Places.{field-lt}
-use Rattle.infoword.specs.Suffix.{idOf, kindOf, versionOf, rfuOf}
+use Rattle.infoword.specs.Suffix.{idOf, kindOf, versionOf, rfuOf, addressOf}
 use Rattle.fields.specs.Report.{holdingOf, headerOf}
 use borrow.Author.Needs.{needs}
 use Rattle.fields.proofs.header_of.Statement.{statement}
@@ -10,6 +12,7 @@ use Rattle.fields.proofs.header_of.Tie as tie
 use Rattle.fields.proofs.header_of.Reads as reads
 use Rattle.fields.proofs.header_of.Lts as lts
 use Rattle.bits.proofs.field.Reads as field-reads
+use Rattle.fields.proofs.address_of.Reads as address-of-reads
 use Rattle.fields.proofs.field.Reads as fields-field-reads
 use Rattle.fields.proofs.parity_of.Reads as parity-of-reads
 use Rattle.fields.proofs.rfu_of.Reads as rfu-of-reads
@@ -29,22 +32,30 @@ field-requires-3 c κs = search needs
 parity-of-requires : tie.Need-parity-of-requires
 parity-of-requires c κs = search needs
 
-cast-t7 : tie.Need-cast-t7
-cast-t7 c =
-    let k = c .before .before .before .before in
+address-of-requires : tie.Need-address-of-requires
+address-of-requires c κs = search needs
+
+cast-address : tie.Need-cast-address
+cast-address c = search needs
+
+cast-t9 : tie.Need-cast-t9
+cast-t9 c =
+    let k = c .before .before .before .before .before in
     omega (arith, k .field .ensures, field-lt (k .before .before .args .word .now) 12268 3 (omega arith))
 
 returns : tie.Need-returns
 unfolding headerOf
 returns c =
-    let k = c .before .before .before .before in
+    let o = c .before in
+    let k = o .before .before .before .before in
     let w = k .before .before .args .word .now in
-    let a : c .before .before .before .rfu-of .result ≡ rfuOf w = c .before .before .before .rfu-of .ensures in
-    let b : c .before .before .field2 .result ≡ idOf w = c .before .before .field2 .ensures in
+    let a : o .before .before .before .rfu-of .result ≡ rfuOf w = o .before .before .before .rfu-of .ensures in
+    let b : o .before .before .field2 .result ≡ idOf w = o .before .before .field2 .ensures in
     let d : k .field .result ≡ kindOf w = k .field .ensures in
-    let e : c .before .field3 .result ≡ versionOf w = c .before .field3 .ensures in
-    let f : c .parity-of .result ≡ holdingOf w = c .parity-of .ensures in
-    cc (a, b, d, e, f)
+    let e : o .before .field3 .result ≡ versionOf w = o .before .field3 .ensures in
+    let f : o .parity-of .result ≡ holdingOf w = o .parity-of .ensures in
+    let g : c .address-of .result ≡ choose (eqb (kindOf w) 3) (addressOf w) 0 = c .address-of .ensures .0 in
+    cc (a, b, d, e, f, g)
 
 pub header-of-spec : {M : Type 1} → statement M
 header-of-spec =
@@ -55,5 +66,7 @@ header-of-spec =
     field-requires-2
     field-requires-3
     parity-of-requires
-    cast-t7
+    address-of-requires
+    cast-address
+    cast-t9
     returns)

@@ -1,16 +1,22 @@
 -- `fields::refusal` meets its contract. Assumes nothing.
-use mathlib.Core.Path.{_≡_, sym, _∙_}
+use Prim.Native.Nat.{_≤_}
+use mathlib.Core.Path.{_≡_, sym, ap, _∙_}
 use native.Mathlib.Omega.{arith}
+use lib.Dec.{eqb}
 use lib.ListN.{length}
-use Rattle.infoword.specs.Suffix.{crcFieldOf, spareOf, coveredOf, headerCrc}
-use Rattle.fields.proofs.Faults.{read-1, read-2, read-5, read-16, read-15, read-0}
+use Rattle.ground.specs.Choice.{both}
+use Rattle.infoword.specs.Suffix.{kindOf, crcFieldOf, spareOf, addressOf, coveredOf, headerCrc}
+use Rattle.fields.specs.Report.{noHeaderAt}
+use Rattle.fields.proofs.Faults.{read-1, read-2, read-5, read-16, read-15, read-18, read-0, address-looked-at}
 use borrow.Author.Needs.{needs}
 use Rattle.fields.proofs.refusal.Statement.{statement}
 use Rattle.fields.proofs.refusal.Tie as tie
 use Rattle.fields.proofs.refusal.Reads as reads
 use Rattle.fields.proofs.refusal.Lts as lts
 use Rattle.infoword.proofs.crc.Reads as crc-reads
+use Rattle.fields.proofs.address_of.Reads as address-of-reads
 use Rattle.fields.proofs.field.Reads as field-reads
+use Rattle.fields.proofs.no_header_at.Reads as no-header-at-reads
 
 returns : tie.Need-returns
 returns c = read-1 (c .before .before .args .word .now) (c .if1 .taken)
@@ -68,9 +74,38 @@ returns-5 c =
     read-15 (l .before .before .args .word .now) (len l) (spare o) (crc-is k)
     (omega (arith, v .if4 .left, v .before .field3 .ensures)) (omega (arith, c .if5 .taken, c .before .field4 .ensures))
 
+address-of-requires : tie.Need-address-of-requires
+address-of-requires c κs = search needs
+
+no-header-at-requires : tie.Need-no-header-at-requires
+no-header-at-requires c κs = search needs
+
+-- a type that is read, and whether its address is one where no header can stand
+read-type : (c : tie.Else5) → kindOf (c .before .before .before .before .before .before .before .before .before .before .before .args .word .now) ≤ 3
+read-type c = omega (arith, c .if5 .left, c .before .field4 .ensures)
+
+found : (c : tie.After-no-header-at) → let w = c .before .before .before .before .before .before .before .before .before .before .before .before .before .args .word .now in
+    c .no-header-at .result ≡ both (eqb (kindOf w) 3) (noHeaderAt (addressOf w))
+found c =
+    let w = c .before .before .before .before .before .before .before .before .before .before .before .before .before .args .word .now in
+    c .no-header-at .ensures ∙ ap noHeaderAt (c .before .address-of .ensures .0) ∙ address-looked-at (eqb (kindOf w) 3) (addressOf w)
+
 returns-6 : tie.Need-returns-6
 returns-6 c =
-    let v = c .before .before in
+    let h = c .before in
+    let t = h .before .before in
+    let v = t .before .before in
+    let k = v .before .before in
+    let o = k .before .before .before in
+    let l = o .before .before in
+    read-18 (l .before .before .args .word .now) (len l) (spare o) (crc-is k)
+    (omega (arith, v .if4 .left, v .before .field3 .ensures)) (read-type t) (sym (found h) ∙ c .if6 .taken)
+
+returns-7 : tie.Need-returns-7
+returns-7 c =
+    let h = c .before in
+    let t = h .before .before in
+    let v = t .before .before in
     let k = v .before .before in
     let o = k .before .before .before in
     let l = o .before .before in
@@ -79,7 +114,8 @@ returns-6 c =
       spare-is = spare o;
       crc-is = crc-is k;
       version-is = omega (arith, v .if4 .left, v .before .field3 .ensures);
-      kind-is = omega (arith, c .if5 .left, c .before .field4 .ensures);
+      kind-is = read-type t;
+      address-is = sym (found h) ∙ c .if6 .left;
     })
 
 pub refusal-spec : {M : Type 1} → statement M
@@ -96,4 +132,7 @@ refusal-spec =
     returns-4
     field-requires-4
     returns-5
-    returns-6)
+    address-of-requires
+    no-header-at-requires
+    returns-6
+    returns-7)

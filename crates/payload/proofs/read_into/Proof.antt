@@ -4,7 +4,7 @@ use mathlib.Core.Path.{sym, ap, _∙_}
 use mathlib.Core.List.{List}
 use native.Mathlib.Omega.{arith}
 use Rattle.payload.specs.Answers.{told, headerBytes}
-use Rattle.payload.proofs.Answers.{refusal-told, header-told, into-room, into-refused, into-done}
+use Rattle.payload.proofs.Answers.{refusal-told, header-told, into-room, into-refused, into-done, header-put}
 use borrow.Author.Needs.{needs}
 use Rattle.payload.proofs.read_into.Statement.{statement}
 use Rattle.payload.proofs.read_into.Tie as tie
@@ -50,7 +50,7 @@ returns-3 c =
     let a = k .before .before .before .before .args in
     let w : List ℕ = a .word .now in
     let f = header-told w (g .0 .0) (ap told (sym (g .1)) ∙ k .read .ensures .0) in
-    into-done w (a .header .now) (omega (arith, k .before .if1 .left)) (f .0) (p .put-header .last .0) (p .put-header .ensures ∙ ap headerBytes (f .1))
+    into-done w (a .header .now) (omega (arith, k .before .if1 .left)) (f .0) (p .put-header .last .0) (p .put-header .ensures ∙ header-put (g .0 .0) 0 (a .header .now) (omega (arith, k .before .if1 .left)) ∙ ap headerBytes (f .1))
 
 pub read-into-spec : {M : Type 1} → statement M
 read-into-spec =
