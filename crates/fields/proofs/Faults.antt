@@ -58,9 +58,16 @@ module _ (w : List ℕ) where
   pub read-0 : Readable w → 0 ≡ readRefusal w
   unfolding readRefusal
   read-0 a =
-      sym (clear-all (readFaults w)
-      (same (length w) 1536 (a .word-is), (same (spareOf w) 0 (a .spare-is), (same (crcFieldOf w) (headerCrc (coveredOf w)) (a .crc-is),
-      (same (versionOf w) 0 (a .version-is), (le-ltb 3 (kindOf w) (a .kind-is), (a .address-is, tt)))))))
+      sym (clear-all (readFaults w) (
+        same (length w) 1536 (a .word-is),
+        (
+          same (spareOf w) 0 (a .spare-is),
+          (
+            same (crcFieldOf w) (headerCrc (coveredOf w)) (a .crc-is),
+            (same (versionOf w) 0 (a .version-is), (le-ltb 3 (kindOf w) (a .kind-is), (a .address-is, tt))),
+          ),
+        ),
+      ))
 
   pub readable : readRefusal w ≡ 0 → Readable w
   unfolding readRefusal

@@ -3,6 +3,7 @@ pub mod Stores
 pub mod WaysBack
 pub mod Damage
 pub mod Registers
+pub mod IpWords
 pub mod Types
 pub mod InBytes
 pub mod Promised

@@ -47,7 +47,7 @@ module _ (kind id u : ℕ) (p : List ℕ) (k : kind ≤ 3) (i : id < 256) (n : l
   kind-is = kind-back kind id u p fits (omega arith)
 
   -- it is accepted, if its address may stand there
-  readable-back : both (eqb (kindOf word) 3) (noHeaderAt (addressOf word)) ≡ false → Readable word
+  pub readable-back : both (eqb (kindOf word) 3) (noHeaderAt (addressOf word)) ≡ false → Readable word
   readable-back a = record {
     word-is = word-length kind id u p fits;
     spare-is = spare-back kind id u p fits;
@@ -58,7 +58,7 @@ module _ (kind id u : ℕ) (p : List ℕ) (k : kind ≤ 3) (i : id < 256) (n : l
   }
 
   -- all four parts of types 2 and 3 hold
-  parity-back : holdingOf word ≡ choose (hasParity kind) 15 0
+  pub parity-back : holdingOf word ≡ choose (hasParity kind) 15 0
   unfolding holdingOf
   parity-back =
       ap (λ (x : ℕ). choose (hasParity x) (heldOf word) 0) kind-is
