@@ -160,3 +160,7 @@ word-long kind id v p e low n =
     ∙ ap (λ (x : List ℕ). p ++ x) (sym (pack-append 28 4 t (bits 4 (v % 16) ++ ended id kind 0 c 0) l) ∙ ap (pack 32) j)
     ∙ ap (λ (x : List ℕ). x ++ pack 32 (s ++ closed (header (bits 32 v) id kind 0))) (sym z)
     ∙ sym (ap (λ (a : Bool). p ++ replicate (choose a 1504 1532 - length p) 0 ++ pack (1536 - choose a 1504 1532) (choose a s [] ++ closed (header (bits 32 v) id kind 0))) e)
+
+-- what stands before STS_ID in type 3, RFU zero and the address, is the address in 32 bits
+pub address-lead : (address : ℕ) → address < 4096 → bits 20 0 ++ bits 12 address ≡ bits 32 address
+address-lead address h = sym (ap (bits 32) (omega arith) ∙ bits-join 20 12 0 address h)

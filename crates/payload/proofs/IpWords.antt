@@ -3,7 +3,7 @@
 use Prim.Native.Nat.{ℕ, _+_, _-_, _*_, _^_, _<_}
 use mathlib.Core.Bool.{false}
 use mathlib.Core.Path.{_≡_, refl, sym, ap, ap₂, _∙_, subst}
-use mathlib.Core.List.{List, _++_}
+use mathlib.Core.List.{List}
 use native.Mathlib.Omega.{arith}
 use borrow.Author.Tests.{eq-eqb}
 use lib.Dec.{eqb}
@@ -12,26 +12,22 @@ use Rattle.ground.specs.Choice.{choose, both}
 use Rattle.ground.proofs.Choice.{choose-true, both-second}
 use Rattle.bits.specs.Lists.{bits}
 use Rattle.bits.specs.Places.{bitAt, fieldAt}
-use Rattle.bits.proofs.Numbers.{bits-join}
 use Rattle.bits.proofs.Places.{number-append, field-is, field-lt}
 use Rattle.infoword.specs.Suffix.{idOf, kindOf, versionOf, hasParity, leadBits, rfuOf, addressOf}
 use Rattle.infoword.specs.Word.{wordWith, ipWord}
 use Rattle.infoword.proofs.Ending.{lead-long, leadOf, rfu-of-3}
+use Rattle.infoword.proofs.Sealing.{address-lead}
 use Rattle.infoword.proofs.Written.{word-length, id-back, kind-back, version-back, lead-back, packet-first}
 use Rattle.fields.specs.Report.{noHeaderAt, holdingOf, headerOf}
 use Rattle.fields.proofs.Faults.{Readable}
 use Rattle.payload.proofs.WaysBack.{readable-back, parity-back}
-
--- RFU, zero, and the address are the address in 32 bits
-pub lead-is : (address : ℕ) → address < 4096 → bits 20 0 ++ bits 12 address ≡ bits 32 address
-lead-is address h = sym (ap (bits 32) (omega arith) ∙ bits-join 20 12 0 address h)
 
 module _ (id address : ℕ) (p : List ℕ) (i : id < 256) (a : address < 4096) (n : length p ≡ 1504) where
   abbrev word : List ℕ
   word = ipWord id address p
 
   word-is : word ≡ wordWith 3 id (bits (leadBits 3) address) p
-  word-is = ap (λ (l : List ℕ). wordWith 3 id l p) (lead-is address a ∙ ap (λ (r : ℕ). bits r address) (sym (lead-long 3 refl)))
+  word-is = ap (λ (l : List ℕ). wordWith 3 id l p) (address-lead address a ∙ ap (λ (r : ℕ). bits r address) (sym (lead-long 3 refl)))
 
   -- a law of such a word is one of this
   law : (P : List ℕ → Type 0) → P (wordWith 3 id (bits (leadBits 3) address) p) → P word
