@@ -35,7 +35,7 @@ pub struct Header {
 }
 
 // Where the header's other fields stand (tables 2 to 5), in bits.
-const FIRST_HEADER_ADDRESS: usize = 12248;
+pub const FIRST_HEADER_ADDRESS: usize = 12248;
 
 const STREAM_ID: usize = 12260;
 

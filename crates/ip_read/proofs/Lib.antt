@@ -1,0 +1,10 @@
+pub mod Fields
+pub mod Walks
+pub mod Copies
+pub mod Opens
+pub mod Looks
+pub mod Hands
+pub mod Takes
+pub mod Agree
+pub mod Faults
+pub mod Outcomes

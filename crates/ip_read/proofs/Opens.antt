@@ -1,0 +1,92 @@
+-- Laws of the open packet in lent memory: dropped, laid down, and what its numbers mean.
+-- Assumes nothing.
+use Prim.Native.Nat.{ℕ, suc, _+_, _-_, _/_, _%_, _≤_, _<_}
+use mathlib.Core.Path.{_≡_, sym, ap, ap₂, _∙_, subst}
+use mathlib.Core.Bool.{true, false, not}
+use mathlib.Core.List.{List, [], _∷_, _++_}
+use native.Mathlib.Omega.{arith}
+use lib.ListN.{length, getD, take, drop, set, replicate, length-append, length-drop, length-take}
+use lib.Seq.{sets-eq, take-append-add, length-take-le}
+use borrow.Author.Tests.{eq-eqb, ne-eqb}
+use Rattle.ground.specs.Outcome.{Is}
+use Rattle.ground.proofs.Choice.{choose-true, choose-false}
+use Rattle.ground.proofs.Refusing.{refusal-leaves, acceptance-leaves}
+use Rattle.bytes.specs.Runs.{copied, filledFrom}
+use Rattle.bytes.proofs.Runs.{copied-is}
+use Rattle.ip.specs.Read.{none, begun, Sound}
+use Rattle.ip.specs.Memory.{openBytes, twoAt, openIn}
+use Rattle.ip.proofs.Memory.{open-meant}
+use Rattle.ip_read.specs.declared.held.Opened.{Opened}
+use Rattle.ip_read.specs.Reading.{dropping}
+use Rattle.ip_read.specs.Steps.{Meant}
+use Rattle.ip_read.proofs.Copies.{copied-behind}
+
+-- ---- none
+
+pub zeros : (m : List ℕ) → length m ≡ 4104 → filledFrom m 0 0 ≡ openBytes none
+unfolding filledFrom openBytes
+zeros m h =
+    let e : length m - 0 ≡ 4104 = omega arith in
+    ap (λ (k : ℕ). replicate k 0) e
+
+pub lost-refused : (m : List ℕ) → (length m ≡ 4104 → ⊥) → Is (dropping m) 1 m
+unfolding dropping
+lost-refused m h = refusal-leaves _ (openBytes none) m (sym (choose-true {A = ℕ} 1 0 (ap not (ne-eqb (length m) 4104 h)))) (λ z. omega arith)
+
+pub lost-done : (m x : List ℕ) → length m ≡ 4104 → x ≡ filledFrom m 0 0 → Is (dropping m) 0 x
+unfolding dropping
+lost-done m x h e = acceptance-leaves _ (openBytes none) m (choose-false {A = ℕ} 1 0 (ap not (eq-eqb (length m) 4104 h))) (e ∙ zeros m h)
+
+-- ---- four bytes at a place
+
+pub stored-four : (m : List ℕ) (at a b c d : ℕ) → at + 4 ≤ length m → set (set (set (set m at a) (at + 1) b) (at + 2) c) (at + 3) d ≡ copied (a ∷ b ∷ c ∷ d ∷ []) m at
+stored-four m at a b c d h =
+    let x : List ℕ = a ∷ b ∷ c ∷ d ∷ [] in
+    let e1 : at + 1 ≡ suc at = omega arith in
+    let e2 : at + 2 ≡ suc (suc at) = omega arith in
+    let e3 : at + 3 ≡ suc (suc (suc at)) = omega arith in
+    ap (λ (i : ℕ). set (set (set (set m at a) i b) (at + 2) c) (at + 3) d) e1
+    ∙ ap₂ (λ (i j : ℕ). set (set (set (set m at a) (suc at) b) i c) j d) e2 e3
+    ∙ sets-eq x m at h ∙ sym (copied-is x m at h)
+
+-- ---- one that is open
+
+-- its numbers in front of the bytes, zeros behind them
+pub settled : (m m1 m2 m3 : List ℕ) (t e n k : ℕ) → length m ≡ 4104 → k ≤ 4096
+    → m1 ≡ copied (1 ∷ t ∷ e ∷ 0 ∷ []) m 0 → m2 ≡ copied (n / 256 ∷ n % 256 ∷ k / 256 ∷ k % 256 ∷ []) m1 4 → m3 ≡ filledFrom m2 (8 + k) 0
+    → m3 ≡ openBytes (begun t e n (take k (drop 8 m)))
+unfolding openBytes filledFrom
+settled m m1 m2 m3 t e n k h r e1 e2 e3 =
+    let x : List ℕ = 1 ∷ t ∷ e ∷ 0 ∷ [] in
+    let y : List ℕ = n / 256 ∷ n % 256 ∷ k / 256 ∷ k % 256 ∷ [] in
+    let s : List ℕ = take k (drop 8 m) in
+    let j : length s ≡ k = length-take-le k (drop 8 m) (omega (arith, length-drop 8 m)) in
+    let f : m2 ≡ (x ++ y) ++ drop 8 m =
+    e2 ∙ ap (λ (l : List ℕ). copied y l 4) e1 ∙ copied-behind x y m 0 (omega arith) ∙ copied-is (x ++ y) m 0 (omega arith) in
+    let w : length m2 ≡ 4104 = ap length f ∙ omega (arith, length-append (x ++ y) (drop 8 m), length-drop 8 m) in
+    let z : length m2 - (8 + k) ≡ 4096 - length s = omega arith in
+    e3 ∙ ap₂ (λ (l : List ℕ) (i : ℕ). l ++ replicate i 0) (ap (take (8 + k)) f ∙ take-append-add (x ++ y) (drop 8 m) k) z
+    ∙ ap (λ (i : ℕ). 1 ∷ t ∷ e ∷ 0 ∷ n / 256 ∷ n % 256 ∷ i / 256 ∷ i % 256 ∷ (s ++ replicate (4096 - length s) 0)) (sym j)
+
+-- what its numbers mean
+module _ (m : List ℕ) (o : Opened) (w : Meant m o) where
+  abbrev bytes : List ℕ
+  bytes = take (o .sofar) (drop 8 m)
+
+  pub meant-none : o .begun ≡ false → openIn m ≡ none
+  unfolding openIn
+  meant-none e = choose-false (begun (getD m 1 0) (getD m 2 0) (twoAt m 4) (take (twoAt m 6) (drop 8 m))) none (sym (w .test) ∙ e)
+
+  pub meant-begun : o .begun ≡ true → openIn m ≡ begun (o .kind) (o .error) (o .length) (take (o .sofar) (drop 8 m))
+  unfolding openIn
+  meant-begun e =
+      choose-true (begun (getD m 1 0) (getD m 2 0) (twoAt m 4) (take (twoAt m 6) (drop 8 m))) none (sym (w .test) ∙ e)
+      ∙ ap₂ (λ (t i : ℕ). begun t i (twoAt m 4) (take (twoAt m 6) (drop 8 m))) (sym (w .kind)) (sym (w .error))
+      ∙ ap₂ (λ (n k : ℕ). begun (o .kind) (o .error) n (take k (drop 8 m))) (sym (w .size)) (sym (w .sofar))
+
+  -- not all of its bytes are there
+  pub meant-sound : length m ≡ 4104 → o .begun ≡ true → (o .length ≤ 4095) × (o .sofar < o .length) × (length (take (o .sofar) (drop 8 m)) ≡ o .sofar)
+  meant-sound h e =
+      let p : Sound (begun (o .kind) (o .error) (o .length) bytes) = subst Sound (meant-begun e) (open-meant m) in
+      let k : o .sofar < o .length = omega (arith, p .4, p .5, length-take (o .sofar) (drop 8 m), length-drop 8 m) in
+      (p .4, k, length-take-le (o .sofar) (drop 8 m) (omega (arith, p .4, length-drop 8 m)))

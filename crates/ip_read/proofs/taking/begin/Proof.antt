@@ -1,0 +1,61 @@
+-- `ip_read::taking::begin` meets its contract. Assumes nothing.
+use Rattle.ip_read.proofs.Takes.{begun-laid}
+use borrow.Author.Needs.{needs}
+use Rattle.ip_read.proofs.taking.begin.Statement.{statement}
+use Rattle.ip_read.proofs.taking.begin.Tie as tie
+use Rattle.ip_read.proofs.taking.begin.Reads as reads
+use Rattle.ip_read.proofs.taking.begin.Lts as lts
+use Rattle.bytes.proofs.copy.Reads as copy-reads
+use Rattle.ip_read.proofs.heads.head_at.Reads as head-at-reads
+use Rattle.ip_read.proofs.held.settle.Reads as settle-reads
+
+head-at-requires : tie.Need-head-at-requires
+head-at-requires c κs = search needs
+
+add-from : tie.Need-add-from
+add-from c = search needs
+
+sub-copy : tie.Need-sub-copy
+sub-copy c = search needs
+
+part-copy-start : tie.Need-part-copy-start
+part-copy-start c = search needs
+
+part-copy-end : tie.Need-part-copy-end
+part-copy-end c = search needs
+
+copy-requires : tie.Need-copy-requires
+copy-requires c κs = search needs
+
+sub-t15 : tie.Need-sub-t15
+sub-t15 c = search needs
+
+settle-requires : tie.Need-settle-requires
+settle-requires c κs = search needs
+
+same-length : tie.Need-same-length
+same-length c = search needs
+
+returns : tie.Need-returns
+returns c =
+    let t = c .before .before in
+    let k = t .before .before .before .before in
+    let d = k .before .before .before in
+    let s = d .before .before .before in
+    begun-laid (s .args .memory .now) (k .copy .last .1 .0) (t .settle .last .0) (s .args .payload .now) (s .args .at) (d .head-at .result) (s .pre .2) (s .pre .0) (s .pre .1) (d .head-at .ensures)
+    (k .copy .ensures) (t .settle .ensures)
+
+pub begin-spec : {M : Type 1} → statement M
+begin-spec =
+    tie.close
+    (tie.spec
+    head-at-requires
+    add-from
+    sub-copy
+    part-copy-start
+    part-copy-end
+    copy-requires
+    sub-t15
+    settle-requires
+    same-length
+    returns)

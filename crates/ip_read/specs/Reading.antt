@@ -1,0 +1,45 @@
+-- What the reader of a word of an IP stream answers and leaves, with the documents' refusals in their order.
+-- Assumes nothing.
+use Prim.Native.Nat.{ℕ}
+use mathlib.Core.Bool.{not}
+use mathlib.Core.List.{List, [], _∷_, _++_}
+use lib.Dec.{eqb, ltb}
+use lib.ListN.{length, take, drop}
+use Rattle.ground.specs.Outcome.{Outcome}
+use Rattle.ground.specs.Choice.{choose, both, Fault, refuse, firstOf, refusing}
+use Rattle.infoword.specs.Suffix.{kindOf, addressOf}
+use Rattle.fields.specs.Report.{readFaults, headerOf}
+use Rattle.payload.specs.Answers.{headerWith, headerBytes}
+use Rattle.ip.specs.Packet.{Packet}
+use Rattle.ip.specs.Read.{none, Got, reading}
+use Rattle.ip.specs.Memory.{queue, openBytes, openIn}
+
+-- a word is lost: none is open afterwards
+unfoldable pub dropping : List ℕ → Outcome ℕ (List ℕ)
+dropping m = refusing (firstOf (refuse 1 (not (eqb (length m) 4104)) ∷ [])) (openBytes none) m
+
+-- what a word of type 3 gives to the packet that is open in the lent memory
+unfoldable pub gotOf : List ℕ → List ℕ → Got
+gotOf w m = reading (openIn m) (addressOf w) (take 1504 w)
+
+-- 1 of the other lengths; "Payload read"; 19
+abbrev pub ipFaults : List ℕ → List ℕ → ℕ → ℕ → List Fault
+ipFaults w m room header =
+    refuse 1 (not (eqb (length m) 4104)) ∷
+    refuse 1 (ltb room 6604) ∷
+    refuse 1 (not (eqb header 16)) ∷
+    (readFaults w ++ (refuse 19 (both (eqb (kindOf w) 3) (gotOf w m .refused)) ∷ []))
+
+-- packets handed out to the front of lent memory
+unfoldable pub handedTo : List ℕ → List Packet → List ℕ
+handedTo out ps = queue ps ++ drop (length (queue ps)) out
+
+-- the open packet, the packets and the header: a word of type 0, 1 or 2 leaves the first two
+unfoldable pub readInto : List ℕ → List ℕ → List ℕ → List ℕ → Outcome ℕ (List ℕ × List ℕ × List ℕ)
+readInto w m out header =
+    let g = gotOf w m in
+    refusing (firstOf (ipFaults w m (length out) (length header)))
+    (choose (eqb (kindOf w) 3)
+    (openBytes (g .after), handedTo out (g .packets), headerWith (headerOf w) (length (queue (g .packets))))
+    (m, out, headerBytes (headerOf w)))
+    (m, out, header)
