@@ -2,6 +2,7 @@
 
 use compare::inputs;
 use compare::rng::Rng;
+use compare::second::ip;
 use compare::second::payload::{payload_of, read, seal, write, Header};
 
 /// Of type 0 or 1, without a null packet.
@@ -17,6 +18,7 @@ fn plain_header(rfu: u32, id: u8, ty: u8) -> Header {
         ty,
         encap: 0,
         parity: 0,
+        address: 0,
     }
 }
 
@@ -79,6 +81,22 @@ fn header_bits_of_packets_by_hand() {
     assert!(word[..1_528].iter().all(|byte| *byte == 0));
 }
 
+/// RFU of 20 bits, First_Header_Address of 12, id 1010 0101, type 011, Encap_Ver 000: where 1,000 and where 1,600 bytes of
+/// a packet are still to come. Four bits of the parity stand before them.
+#[test]
+fn header_bits_of_an_ip_stream_by_hand() {
+    let mut queue = vec![1, 0, 0x0F, 0xFF];
+    queue.resize(4 + 4_095, 0);
+    for (sent, address) in [(3_097, "001111101000"), (2_497, "111111111111")] {
+        let header = format!("{:020b}{address}10100101011000", 0);
+        assert_eq!(header.len(), 46);
+        let word = ip::write(0xA5, sent, &queue, 1_536, 8).unwrap().word;
+        let due = header_bytes(&header);
+        assert_eq!(word[1_528] & 0x0F, due[0]);
+        assert_eq!(word[1_529..], due[1..]);
+    }
+}
+
 #[test]
 fn rfu_and_dummy_bytes_are_taken_as_they_stand() {
     let mut rng = Rng::new(21);
@@ -112,11 +130,13 @@ fn every_refusal_of_the_reader() {
         }
     }
     assert_eq!(inputs::refused_payload_word(&mut rng, 6), None);
-    // The order: 1 2 5 16 15, each on top of the next.
+    // The order: 1 2 5 16 15 18, each on top of the next.
     let mut word = vec![0; 1_536];
-    inputs::set_payload_header(&mut word, 0, 0, 3, 0);
+    inputs::set_ip_header(&mut word, 0, 1_503, 0);
+    assert_eq!(read(&word), Err(18));
+    inputs::set_payload_header(&mut word, 0, 0, 4, 0);
     assert_eq!(read(&word), Err(15));
-    inputs::set_payload_header(&mut word, 0, 0, 3, 1);
+    inputs::set_payload_header(&mut word, 0, 0, 4, 1);
     assert_eq!(read(&word), Err(16));
     word[1_534] ^= 1;
     assert_eq!(read(&word), Err(5));
@@ -126,7 +146,8 @@ fn every_refusal_of_the_reader() {
     assert_eq!(read(&word), Err(1));
 }
 
-/// All before them is zero: packets of zeros with the parity that they have, and the rest of a longer RFU.
+/// All before them is zero: packets of zeros with the parity that they have, and the rest of a longer RFU. Of type 3 the
+/// first four bits are the last of First_Header_Address.
 #[test]
 fn every_header_of_18_bits() {
     let mut word = vec![0u8; 1_536];
@@ -137,9 +158,15 @@ fn every_header_of_18_bits() {
         word[1_534] = (header << 6) as u8;
         seal(&mut word);
         let expected = match (encap, ty) {
-            (0, 0..=2) => Ok(Header {
-                parity: if ty == 2 { 0b1111 } else { 0 },
-                ..plain_header(rfu, id as u8, ty as u8)
+            (0, 0..=1) => Ok(plain_header(rfu, id as u8, ty as u8)),
+            (0, 2) => Ok(Header {
+                parity: 0b1111,
+                ..plain_header(rfu, id as u8, 2)
+            }),
+            (0, 3) => Ok(Header {
+                parity: 0b1111,
+                address: rfu as u16,
+                ..plain_header(0, id as u8, 3)
             }),
             (0, _) => Err(15),
             _ => Err(16),

@@ -15,6 +15,7 @@ fn header(rfu: u32, id: u8, parity: u8) -> Header {
         ty: 2,
         encap: 0,
         parity,
+        address: 0,
     }
 }
 
@@ -98,8 +99,8 @@ fn rfu_is_taken_as_it_stands() {
     }
 }
 
-/// Each bit of the 46 that the CRC is over, and of the CRC. A bit of the type makes it 6, 0 or 3, with a CRC over 18
-/// bits, which is another one where RFU is 0.
+/// Each bit of the 46 that the CRC is over, and of the CRC. A bit of the type makes it 6 or 0, with a CRC over 18 bits,
+/// which is another one where RFU is 0; or 3, with one over 46 bits too.
 #[test]
 fn a_changed_header_bit_is_noticed() {
     let word = inputs::transport_word(&mut Rng::new(43));
@@ -109,7 +110,7 @@ fn a_changed_header_bit_is_noticed() {
         assert_eq!(read(&damaged), Err(5), "bit {index}");
         seal(&mut damaged);
         let due = match index {
-            12_268 | 12_270 => Err(15),
+            12_268 => Err(15),
             12_271..=12_273 => Err(16),
             _ => Ok(()),
         };
@@ -117,15 +118,15 @@ fn a_changed_header_bit_is_noticed() {
     }
 }
 
-/// The CRC is over 46 bits for type 2 alone. With RFU 0 both CRCs of a word differ, as the register of ones is another
-/// after 28 zeros.
+/// The CRC is over 46 bits for types 2 and 3 alone. With RFU and address 0 both CRCs of a word differ, as the register of
+/// ones is another after 28 zeros.
 #[test]
 fn the_crc_of_another_type_is_wrong() {
     let mut word = vec![0; 1_536];
     for id in 0..256 {
         for ty in 0..8 {
             inputs::set_payload_header(&mut word, 0, id, ty, 0);
-            let right = if ty == 2 { 46 } else { 18 };
+            let right = if matches!(ty, 2 | 3) { 46 } else { 18 };
             seal_over(&mut word, right);
             assert_ne!(read(&word), Err(5), "type {ty}");
             seal_over(&mut word, 46 + 18 - right);

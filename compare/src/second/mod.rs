@@ -8,6 +8,7 @@ pub mod bits;
 pub mod crc;
 pub mod description;
 pub mod interleaver;
+pub mod ip;
 pub mod parity;
 pub mod patterns;
 pub mod payload;

@@ -1,5 +1,6 @@
-//! The parity of two transport stream packets (clause 4.3.3): a shortened BCH code, and behind it a single parity bit.
-//! Polynomials are over GF(2); their coefficients stand as they are sent, that of the highest power first.
+//! The parity of two transport stream packets (clause 4.3.3), or of as many bytes of an IP stream (clause 4.3.4): a
+//! shortened BCH code, and behind it a single parity bit. Polynomials are over GF(2); their coefficients stand as they are
+//! sent, that of the highest power first.
 
 /// The powers of x in the generator g(x), as the clause writes it.
 pub const GENERATOR: [u32; 19] = [
@@ -8,7 +9,7 @@ pub const GENERATOR: [u32; 19] = [
 /// Its degree, and so the number of bits d47 .. d0 of a remainder.
 const DEGREE: usize = 48;
 
-/// The bits m3007 .. m0 of a message: two packets.
+/// The bits m3007 .. m0 of a message: two packets, 376 bytes.
 pub const MESSAGE_BITS: usize = 3_008;
 /// The bits d47 .. d0 p0 behind them.
 pub const PARITY_BITS: usize = DEGREE + 1;

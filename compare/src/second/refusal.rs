@@ -28,9 +28,14 @@ pub const HEADER: u8 = 12;
 pub const COUNTS: u8 = 13;
 /// A section's top bits set.
 pub const SECTION_TOP: u8 = 14;
-/// Stream type above 2.
+/// Stream type above 3; in what `payload::write` writes, above 2.
 pub const STREAM_TYPE: u8 = 15;
 /// Encap_Ver not 0.
 pub const ENCAP: u8 = 16;
 /// Packet count above 8.
 pub const PACKET_COUNT: u8 = 17;
+/// First_Header_Address 1,503 to 4,094.
+pub const ADDRESS: u8 = 18;
+/// A packet of an IP stream that is none, a stray byte in the padding, or an announced address that the open packet
+/// contradicts.
+pub const IP_PACKET: u8 = 19;
