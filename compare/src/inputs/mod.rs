@@ -2,6 +2,8 @@
 //! refusal. All of it follows from the seed.
 
 mod descriptions;
+mod ip_queues;
+mod ip_words;
 mod payload;
 mod preamble;
 mod sheets;
@@ -10,6 +12,14 @@ mod turbo;
 mod words;
 
 pub use descriptions::{description, plain, plain_pipe, points_at_the_bound};
+pub use ip_queues::{
+    handed_out, ip_data, ip_length, ip_packet, ip_queue, mutated_sending, plain_packet,
+    refused_sending, sending, Sending,
+};
+pub use ip_words::{
+    ip_word, memory, mutated_receiving, none_open, not_open, open_packet, receiving, stray,
+    NotOpen, Receiving, Stray, NOT_OPEN, STRAYS,
+};
 pub use payload::{
     address, mutated_payload_word, payload_word, payload_word_of, refused_payload_word,
     set_ip_header, set_payload_header, wrong_address, PAYLOAD_REFUSALS,
