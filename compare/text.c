@@ -10,6 +10,7 @@
  *   empty NUMBER               the refusal number of a call that is lent OPL_EMPTY
  *   form NUMBER NUMBER         a number of opl_form, and what opl_preamble_form says of bytes that are so
  *   parity NUMBER NUMBER       OPL_PARITY_HOLDS, and what opl_payload_read reports of a word that was written
+ *   address NUMBER NUMBER      OPL_IP_NO_HEADER, and what opl_payload_read reports of a word in which no header stands
  *   refusal NUMBER TEXT        opl_refusal_text, of every number that a byte has
  *   codeword PATTERN BYTES     opl_codeword_bytes, where it is not 0
  *   sheet BYTES                opl_sheet_bytes, of each header
@@ -30,11 +31,12 @@ static void say_empty(void)
 {
     static const uint8_t *const none = OPL_EMPTY;
     static uint8_t word[OPL_PAYLOAD_WORD_BYTES];
-    static uint8_t null_packet[OPL_TS_PACKET_BYTES];
+    static uint8_t null_packet[OPL_TS_PACKET_BYTES], progress[OPL_IP_PROGRESS_BYTES];
     printf("empty %d\n", opl_payload_write(0, 9, 0, OPL_EMPTY, 0, OPL_EMPTY, 0, word, sizeof word));
     printf("empty %d\n", opl_payload_write(0, 9, 0, none, 0, none, 0, word, sizeof word));
     printf("empty %d\n",
            opl_payload_write(2, 9, 0, OPL_EMPTY, 0, null_packet, sizeof null_packet, word, sizeof word));
+    printf("empty %d\n", opl_ip_write(9, 0, OPL_EMPTY, 0, word, sizeof word, progress, sizeof progress));
     printf("empty %d\n", opl_signalling_write(OPL_EMPTY, 0, OPL_EMPTY, 0));
     printf("empty %d\n", opl_place(0, EMPTY_AS(const int8_t *), 0, EMPTY_AS(int16_t *), 0));
 }
@@ -67,6 +69,20 @@ static void say_parity(void)
                           sizeof word) == OPL_ACCEPTED &&
         opl_payload_read(word, sizeof word, header, sizeof header) == OPL_ACCEPTED)
         printf("parity %d %d\n", OPL_PARITY_HOLDS, header[7]);
+}
+
+/* Of the longest packet, in the word behind the one in which it begins. */
+static void say_no_header(void)
+{
+    static uint8_t queue[4 + OPL_IP_PACKET_MOST], progress[OPL_IP_PROGRESS_BYTES];
+    static uint8_t word[OPL_PAYLOAD_WORD_BYTES], header[OPL_PAYLOAD_HEADER_BYTES];
+    queue[0] = 1;
+    queue[2] = OPL_IP_PACKET_MOST >> 8;
+    queue[3] = OPL_IP_PACKET_MOST & 0xFF;
+    if (opl_ip_write(9, OPL_IP_PAYLOAD_BYTES, queue, sizeof queue, word, sizeof word, progress, sizeof progress) ==
+            OPL_ACCEPTED &&
+        opl_payload_read(word, sizeof word, header, sizeof header) == OPL_ACCEPTED)
+        printf("address %d %d\n", OPL_IP_NO_HEADER, header[8] << 8 | header[9]);
 }
 
 static void say_refusals(void)
@@ -114,6 +130,7 @@ int main(int words, char **word)
     say_empty();
     say_forms();
     say_parity();
+    say_no_header();
     say_refusals();
     say_all_codewords();
     say_sheets(headers);

@@ -34,7 +34,7 @@
 
 /* The version of this header and of the library that comes with it: numbers, and a text of them with dots. */
 #define OPL_VERSION_MAJOR 0
-#define OPL_VERSION_MINOR 3
+#define OPL_VERSION_MINOR 4
 #define OPL_VERSION_PATCH 0
 #define OPL_VERSION OPL_DOTTED(OPL_VERSION_MAJOR, OPL_VERSION_MINOR, OPL_VERSION_PATCH)
 
@@ -71,7 +71,8 @@ extern "C" {
 /* The refusal numbers. Names such as Sig_Pipe_Ver are the standard's. */
 enum opl_refusal {
     OPL_ACCEPTED = 0,      /* no refusal */
-    OPL_LENGTH = 1,        /* a lent length is wrong (a signalling reader's room: below 128) */
+    OPL_LENGTH = 1,        /* a lent length is wrong (a signalling reader's room: below 128; opl_ip_read's: below
+                              6,604), or sent of opl_ip_write is */
     OPL_SPARE = 2,         /* a spare bit, of the six that end a word, is set */
     OPL_PATTERN = 3,       /* the puncturing pattern is above 27 */
     OPL_BLOCK_PATTERN = 4, /* a signalling word (block of 762 bits) with a pattern other than 0 */
@@ -85,9 +86,12 @@ enum opl_refusal {
     OPL_SHEET_HEADER = 12, /* the sheet's header is wrong, or the sheet is shorter than 21 bytes */
     OPL_COUNTS = 13,       /* the sheet header's counts differ from what its records say */
     OPL_SECTION_TOP = 14,  /* the top four bits of a section in a sheet are not zero */
-    OPL_STREAM_TYPE = 15,  /* the stream type is above 2 */
+    OPL_STREAM_TYPE = 15,  /* the stream type is above 3; of a word to be written by opl_payload_write, above 2 */
     OPL_ENCAP_VER = 16,    /* Encap_Ver is not 0 */
-    OPL_PACKET_COUNT = 17  /* more than eight transport stream packets for one payload word */
+    OPL_PACKET_COUNT = 17, /* more than eight transport stream packets for one payload word */
+    OPL_FIRST_HEADER = 18, /* First_Header_Address is 1,503 to 4,094 */
+    OPL_IP_PACKET = 19     /* an IP packet's type or length is none, a byte of an IP stream's padding is not FF, or
+                              First_Header_Address contradicts the open packet */
 };
 
 /* The length of the start-of-frame preamble, in bytes. */
@@ -239,20 +243,22 @@ uint8_t opl_signalling_write(const uint8_t *sheet, size_t n, uint8_t *word, size
 #define OPL_TS_PAYLOAD_BYTES 1504
 
 /*
- * A payload word has its payload first and its header at the end (clauses 4.3.1 to 4.3.3), by stream type:
+ * A payload word has its payload first and its header at the end (clauses 4.3.1 to 4.3.4), by stream type:
  *
  *   type 0, dummy              1,532 bytes of zero; the header
  *   type 1, transparent        1,532 bytes of payload; the header
  *   type 2, transport stream   eight packets of 188 bytes; Parity_Parts, 4 x 49 bits; the header
+ *   type 3, IP stream          1,504 bytes of packets that run on from word to word; Parity_Parts, 4 x 49 bits;
+ *                              the header
  *
- * The header is RFU, 4 bits of types 0 and 1 and 32 bits of type 2, the stream id, 8, the stream type, 3, and
- * Encap_Ver, 3. Behind it stand its CRC-8, over the 18 bits of types 0 and 1 and the 46 bits of type 2, and six
- * spare bits of zero.
+ * The header is RFU, 4 bits of types 0 and 1, 32 bits of type 2 and 20 bits of type 3; of type 3
+ * First_Header_Address, 12; the stream id, 8, the stream type, 3, and Encap_Ver, 3. Behind it stand its CRC-8, over
+ * the 18 bits of types 0 and 1 and the 46 bits of types 2 and 3, and six spare bits of zero.
  *
- * The eight packets are four parts of two packets, 376 bytes each, counted from 0. The 49 bits of Parity_Parts
- * at bit 12,032 + 49k are the parity of part k: the 48 bits d47 .. d0 of the remainder of x^48 m(x) by the
- * generator, and the parity bit p0, the sum modulo 2 of the part's 3,008 bits and of the 48. m(x) has the
- * part's bits as its coefficients, the first bit that of x^3007, and the generator is
+ * The 1,504 bytes of types 2 and 3 are four parts of 376 bytes each, of type 2 two packets, counted from 0. The 49
+ * bits of Parity_Parts at bit 12,032 + 49k are the parity of part k: the 48 bits d47 .. d0 of the remainder of
+ * x^48 m(x) by the generator, and the parity bit p0, the sum modulo 2 of the part's 3,008 bits and of the 48. m(x)
+ * has the part's bits as its coefficients, the first bit that of x^3007, and the generator is
  *
  *   x^48 + x^44 + x^41 + x^37 + x^36 + x^34 + x^32 + x^29 + x^27 + x^26 + x^21 + x^17 + x^16 + x^13
  *   + x^7 + x^5 + x^3 + x + 1
@@ -261,7 +267,7 @@ uint8_t opl_signalling_write(const uint8_t *sheet, size_t n, uint8_t *word, size
  */
 
 /*
- * Writes a payload word, RFU and Encap_Ver as 0.
+ * Writes a payload word of type 0, 1 or 2, RFU and Encap_Ver as 0. Type 3 has a writer of its own, opl_ip_write.
  *
  *   type          the stream type: 0 (dummy), 1 (transparent) or 2 (transport stream)
  *   id            the stream id
@@ -285,37 +291,173 @@ uint8_t opl_payload_write(uint32_t type, uint8_t id, uint32_t count, const uint8
 #define OPL_PARITY_HOLDS 15
 
 /*
+ * First_Header_Address of a word of type 3 in which no packet's header stands, FFF in hex. Any other that is
+ * accepted is at most 1,502.
+ */
+#define OPL_IP_NO_HEADER 4095
+
+/*
  * Reads the header of a payload word. The payload of an accepted word is its first bytes, as they were
- * received: of type 1 the first 1,532, of type 2 the first 1,504, which are eight packets, whatever the parity
- * says. A word of type 0 has none, whatever its bytes hold.
+ * received: of type 1 the first 1,532, of type 2 the first 1,504, which are eight packets, and of type 3 the first
+ * 1,504, which opl_ip_read takes apart, whatever the parity says. A word of type 0 has none, whatever its bytes
+ * hold.
  *
  *   word     n bytes, n = 1,536 (OPL_PAYLOAD_WORD_BYTES)
- *   header   m bytes, m = 16 (OPL_PAYLOAD_HEADER_BYTES):
- *              byte 0   RFU as it stands, four bytes, the most significant first
- *              byte 4   the stream id
- *              byte 5   the stream type
- *              byte 6   Encap_Ver
- *              byte 7   parity, of type 2: bit k (value 2^k) is set where part k holds, that is, where the
- *                       generator and the parity bit both agree; of types 0 and 1 zero
- *              byte 8   eight bytes of zero, kept for what later stream types report
+ *   header   m bytes, m = 16 (OPL_PAYLOAD_HEADER_BYTES), numbers with their most significant byte first:
+ *              byte  0   RFU as it stands, four bytes
+ *              byte  4   the stream id
+ *              byte  5   the stream type
+ *              byte  6   Encap_Ver
+ *              byte  7   parity, of types 2 and 3: bit k (value 2^k) is set where part k holds, that is, where the
+ *                        generator and the parity bit both agree; of types 0 and 1 zero
+ *              byte  8   First_Header_Address, of type 3, two bytes; of any other type zero
+ *              byte 10   two bytes of zero, where opl_ip_read says how many bytes of packets it has handed out
+ *              byte 12   four bytes of zero, kept for what later versions report
  *
- * What opl_payload_write has written is accepted, of type 2 with all four parts holding. Where an odd number of
- * the 3,057 bits of a part that holds is changed, and no other bit, just that part does not hold any more.
+ * What opl_payload_write and opl_ip_write have written is accepted, of types 2 and 3 with all four parts holding.
+ * Where an odd number of the 3,057 bits of a part that holds is changed, and no other bit, just that part does not
+ * hold any more.
  *
- * One changed bit of the header of a word that opl_payload_write has written is refused with OPL_CRC. So it is of
- * any other accepted word, unless the bit is one of the stream type by which the type becomes 2 or is 2 no more:
- * the CRC is then that of another number of bits, and with an RFU that is not 0 it can be right.
+ * One changed bit of the header of an accepted word is refused with OPL_CRC, unless it is a bit of the stream type by
+ * which the type becomes 2 or 3, or is neither any more: the CRC is then that of another number of bits, and it can be
+ * right. Of the words that opl_payload_write and opl_ip_write have written it is so of type 1 alone: by what the last
+ * bytes of its payload are, a word of type 1 whose type becomes 3 by one changed bit may be accepted.
  *
  * Refusals, in this order:
  *
- *   OPL_LENGTH        n is not 1,536, or m is not 16
- *   OPL_SPARE         one of the word's last six bits is set
- *   OPL_CRC           the CRC-8 is not that of the header: of its last 46 bits where the stream type's three
- *                     bits are 2, and of its last 18 where they are any other number
- *   OPL_ENCAP_VER     Encap_Ver is not 0
- *   OPL_STREAM_TYPE   the stream type is above 2
+ *   OPL_LENGTH         n is not 1,536, or m is not 16
+ *   OPL_SPARE          one of the word's last six bits is set
+ *   OPL_CRC            the CRC-8 is not that of the header: of its last 46 bits where the stream type's three
+ *                      bits are 2 or 3, and of its last 18 where they are any other number
+ *   OPL_ENCAP_VER      Encap_Ver is not 0
+ *   OPL_STREAM_TYPE    the stream type is above 3
+ *   OPL_FIRST_HEADER   the stream type is 3, and First_Header_Address is 1,503 to 4,094
  */
 uint8_t opl_payload_read(const uint8_t *word, size_t n, uint8_t *header, size_t m);
+
+/*
+ * Of an IP stream: the bytes of a word that packets run through, the longest packet, what opl_ip_write says of its
+ * progress and what opl_ip_read keeps of an open packet, and the room that it needs for packets, in bytes.
+ */
+#define OPL_IP_PAYLOAD_BYTES 1504
+#define OPL_IP_PACKET_MOST 4095
+#define OPL_IP_PROGRESS_BYTES 8
+#define OPL_IP_OPEN_BYTES 4104
+#define OPL_IP_ROOM 6604
+
+/*
+ * An IP stream is packets of 1 to 4,095 bytes that run on from one word of type 3 into the next. In a word, a header
+ * of two bytes stands before each packet (table 6): the packet's type, 2 bits, its error bit, 1, its length, 12, and
+ * RFU, 1, the last bit. Such a header is never split: it begins at byte 1,502 of the word's 1,504 or before, and where
+ * one would begin at byte 1,503, the last, that byte is FF. Where packets are wanting, the rest of the word is FF; a
+ * header FF FF says so, and counts as a header. First_Header_Address is the address of the first header in the word,
+ * 0 to 1,502, or FFF (OPL_IP_NO_HEADER) where there is none.
+ *
+ * Outside of words, packets stand in a queue. It is any number of packets one after the other, each so:
+ *
+ *   byte 0   its type: 1 (IPv4) or 2 (IPv6)
+ *   byte 1   its error: 0 where it has none, and any other number where it is erroneous
+ *   byte 2   its length, 1 to 4,095, two bytes, the most significant first
+ *   byte 4   its data, that many bytes
+ */
+
+/*
+ * Writes the next word of an IP stream, RFU and Encap_Ver as 0, and says how far the queue has come.
+ *
+ *   id         the stream id
+ *   sent       how much of the queue's first packet earlier words carry, its header's two bytes counted: 0 where
+ *              it is not begun or the queue is empty, else 2 to its length + 1
+ *   queue      n bytes, of which any number may be lent: the packets that wait, in order; or none (OPL_EMPTY)
+ *   word       m bytes, m = 1,536 (OPL_PAYLOAD_WORD_BYTES)
+ *   progress   k bytes, k = 8 (OPL_IP_PROGRESS_BYTES), two numbers of four bytes, the most significant first:
+ *                byte 0   how many bytes at the front of the queue are done with: the packets that are now wholly
+ *                         sent
+ *                byte 4   sent for the packet that is then first
+ *
+ * The library keeps nothing of a stream. The caller drops from the queue what is done with, has packets join it at its
+ * end as they come, and lends it again with the new sent for the next word. Until then the first packet stays as it
+ * is.
+ *
+ * The word takes what is left of the packet that is begun, and then, as long as a packet waits and a header fits,
+ * begins the next, at byte 1,502 too, with all its data in later words. What is left of the 1,504 bytes is FF. So each
+ * word of a queue that is not empty makes progress, and the word of an empty one has 1,504 bytes of FF and
+ * First_Header_Address 0.
+ *
+ * Each call walks the whole queue that is lent to it: of a long one, lend the front. As many whole packets as have
+ * 1,503 bytes still to be sent, their headers counted, give the word that the whole queue would give.
+ *
+ * Refusals, in this order:
+ *
+ *   OPL_IP_PACKET   a packet's type is not 1 or 2, or its length is not 1 to 4,095. It is looked for in the whole
+ *                   queue, as far as that can be walked: where the queue ends inside a packet's data too, but not
+ *                   where it ends inside the four bytes before them
+ *   OPL_LENGTH      the queue ends inside a packet or the four bytes before its data; sent is none of the numbers
+ *                   above; m is not 1,536; or k is not 8
+ */
+uint8_t opl_ip_write(uint8_t id, uint32_t sent, const uint8_t *queue, size_t n, uint8_t *word, size_t m,
+                     uint8_t *progress, size_t k);
+
+/*
+ * Reads a word of an IP stream: hands out the packets that end in it, and keeps the one that goes on in the next.
+ *
+ *   word      n bytes, n = 1,536 (OPL_PAYLOAD_WORD_BYTES)
+ *   open      k bytes, k = 4,104 (OPL_IP_OPEN_BYTES): the packet that is open, of which earlier words had the
+ *             beginning. Each stream id has an open of its own, all zeros before its first word, which is lent with
+ *             each word of that stream; which stream a word is of, opl_payload_read tells. Its form, numbers with their
+ *             most significant byte first:
+ *               byte 0   1 where a packet is open
+ *               byte 1   the packet's type, 1 or 2
+ *               byte 2   its error, 0 or 1
+ *               byte 3   zero
+ *               byte 4   its length, 1 to 4,095, two bytes
+ *               byte 6   how many bytes of it are there so far, fewer than its length, two bytes
+ *               byte 8   these bytes, and zeros behind them
+ *             Where one of bytes 0 to 7 is not so, none is open; all zeros is the form for that. What stands behind the
+ *             bytes so far is not looked at
+ *   packets   room bytes, room at least 6,604 (OPL_IP_ROOM): the packets that are handed out, at the front of it, as a
+ *             queue has them, with an error byte of 0 or 1, so that opl_ip_write takes them. At most 6,604 bytes come
+ *             of one word; the bytes past them stay
+ *   header    m bytes, m = 16 (OPL_PAYLOAD_HEADER_BYTES), as opl_payload_read writes it, but for
+ *               byte 10   how many bytes of packets were handed out, of type 3, two bytes, the most significant first
+ *
+ * Only whole packets are handed out, in order, each with its type and error. The parity decides nothing: of a part that
+ * does not hold the packets come out all the same. After an accepted word of type 3, open has exactly one of the two
+ * forms. A word of type 0, 1 or 2 that opl_payload_read accepts is accepted with the same header, and leaves open and
+ * packets as they were: so dummies may come in between.
+ *
+ * With a packet open, First_Header_Address has to be what the packet says: the number of its bytes that are still to
+ * come where these are at most 1,502, and FFF where they are more. With none open, the bytes before the announced
+ * header are passed over unread, and all of the word where that is FFF: so reading begins, and so it begins again after
+ * a loss.
+ *
+ * Every word that was lost or refused has to be reported with opl_ip_lost before the next word of that stream is read,
+ * and where it may have been of several streams, for each of them. Words of type 3 have no running count: a loss that
+ * is not reported can join the beginning of one packet with the end of another, and no refusal shows it. With each lost
+ * or refused word reported, and all others read in order, what is handed out of the words that opl_ip_write wrote is
+ * exactly the packets all of whose words arrived.
+ *
+ * Refusals, in this order; each leaves open, packets and header as they were:
+ *
+ *   OPL_LENGTH         n is not 1,536, k is not 4,104, room is below 6,604, or m is not 16
+ *   OPL_SPARE, OPL_CRC, OPL_ENCAP_VER, OPL_STREAM_TYPE, OPL_FIRST_HEADER
+ *                      as opl_payload_read gives them
+ *   OPL_IP_PACKET      First_Header_Address is not what the open packet says; in what is read of the word, a header
+ *                      other than FF FF has packet type 0 or 3 (FF FE too), or length 0; a byte behind a header FF FF
+ *                      is not FF; or byte 1,503 is not FF where a header would begin there. RFU of a packet's header
+ *                      is else not looked at
+ */
+uint8_t opl_ip_read(const uint8_t *word, size_t n, uint8_t *open, size_t k, uint8_t *packets, size_t room,
+                    uint8_t *header, size_t m);
+
+/*
+ * Reports that a word of an IP stream was lost or refused, or several: the open packet is dropped, and reading begins
+ * again at the next header that is announced. It is called before the next word of that stream is read.
+ *
+ *   open   k bytes, k = 4,104 (OPL_IP_OPEN_BYTES), whatever they hold: becomes all zeros
+ *
+ * Refusals: OPL_LENGTH where k is not 4,104.
+ */
+uint8_t opl_ip_lost(uint8_t *open, size_t k);
 
 /* The longest codewords of a payload word and of a signalling word, those of pattern 0, in bytes. */
 #define OPL_PAYLOAD_CODEWORD_MOST 7680
@@ -342,7 +484,8 @@ uint8_t opl_payload_read(const uint8_t *word, size_t n, uint8_t *header, size_t 
  * The bitwise sum of two accepted words of one length is accepted too, and its codeword is the bitwise sum of
  * their codewords under the same pattern, tail included: so a test bench may compare the two. The codeword of
  * zeros is of zeros. The sum of two words that opl_payload_write wrote has a wrong HeaderCRC, which is not looked
- * at here, and which opl_payload_read refuses with OPL_CRC.
+ * at here, and which opl_payload_read refuses with OPL_CRC; unless one is of type 1 and the other of type 2. Then the
+ * sum says type 3, and by the last bytes of its payload the CRC can be right.
  *
  * Refusals, in this order:
  *

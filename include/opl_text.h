@@ -22,7 +22,7 @@ static inline const char *opl_refusal_text(uint8_t number)
 {
     static const char *const texts[] = {
         "OPL_ACCEPTED: no refusal",
-        "OPL_LENGTH: a lent length is wrong",
+        "OPL_LENGTH: a lent length is wrong, or how much is said to be sent of an IP packet",
         "OPL_SPARE: a spare bit is set",
         "OPL_PATTERN: the puncturing pattern is above 27",
         "OPL_BLOCK_PATTERN: a signalling word with a pattern other than 0",
@@ -36,9 +36,11 @@ static inline const char *opl_refusal_text(uint8_t number)
         "OPL_SHEET_HEADER: the sheet's header is wrong, or the sheet is cut short",
         "OPL_COUNTS: the sheet header's counts differ from what its records say",
         "OPL_SECTION_TOP: the top four bits of a section in a sheet are not zero",
-        "OPL_STREAM_TYPE: the stream type is above 2",
+        "OPL_STREAM_TYPE: the stream type is none that the function takes",
         "OPL_ENCAP_VER: Encap_Ver is not 0",
         "OPL_PACKET_COUNT: more than eight transport stream packets for one payload word",
+        "OPL_FIRST_HEADER: First_Header_Address is 1,503 to 4,094",
+        "OPL_IP_PACKET: an IP packet or the padding is not sound, or First_Header_Address contradicts the open packet",
     };
     return number < sizeof texts / sizeof texts[0] ? texts[number] : "a number that opl.h does not have";
 }

@@ -15,7 +15,10 @@ const ORDERS: &[(&str, &[u8])] = &[
     ("opl_signalling_read", &[1, 2, 5, 6, 7, 8, 9, 10, 11]),
     ("opl_signalling_write", &[1, 12, 14, 6, 13, 7, 9, 10, 11]),
     ("opl_payload_write", &[15, 17, 1]),
-    ("opl_payload_read", &[1, 2, 5, 16, 15]),
+    ("opl_payload_read", &[1, 2, 5, 16, 15, 18]),
+    ("opl_ip_write", &[19, 1]),
+    ("opl_ip_read", &[1, 2, 5, 16, 15, 18, 19]),
+    ("opl_ip_lost", &[1]),
     ("opl_encode", &[1, 3, 4, 1, 2]),
     ("opl_place", &[1, 3, 4, 1]),
 ];

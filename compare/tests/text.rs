@@ -7,6 +7,7 @@ use compare::fuzz::entries;
 use compare::inputs;
 use compare::opl;
 use compare::rng::Rng;
+use compare::second::ip;
 use compare::second::payload;
 use compare::second::preamble::Form;
 use compare::second::signalling::{sheet_of, word_of};
@@ -82,11 +83,11 @@ fn the_version_is_that_of_the_numbers() {
     assert!(lines("version").eq([&due[..]]));
 }
 
-/// As a dummy's payload and null packet it is accepted, and as the payload of no packets; elsewhere no length of zero
-/// is.
+/// As a dummy's payload and null packet it is accepted, as the payload of no packets, and as a queue of none; elsewhere no
+/// length of zero is.
 #[test]
 fn an_empty_buffer_is_lent() {
-    assert!(lines("empty").eq(["0", "0", "0", "1", "1"]));
+    assert!(lines("empty").eq(["0", "0", "0", "0", "1", "1"]));
 }
 
 #[test]
@@ -95,6 +96,21 @@ fn the_figures_of_packets_are_the_seconds() {
     assert_eq!(figure("OPL_TS_PACKETS"), payload::TS_PACKETS as usize);
     assert_eq!(figure("OPL_TS_PAYLOAD_BYTES"), payload::TS_PAYLOAD_BYTES);
     assert_eq!(figure("OPL_PARITY_HOLDS"), (1 << payload::PARTS) - 1);
+}
+
+#[test]
+fn the_figures_of_ip_streams_are_the_seconds() {
+    assert_eq!(figure("OPL_IP_PAYLOAD_BYTES"), ip::PAYLOAD_BYTES);
+    assert_eq!(figure("OPL_IP_PACKET_MOST"), ip::PACKET_MOST);
+    assert_eq!(figure("OPL_IP_PROGRESS_BYTES"), ip::PROGRESS_BYTES);
+    assert_eq!(figure("OPL_IP_OPEN_BYTES"), ip::OPEN_BYTES);
+    assert_eq!(figure("OPL_IP_ROOM"), ip::ROOM);
+    assert_eq!(figure("OPL_IP_NO_HEADER"), payload::NO_HEADER.into());
+}
+
+#[test]
+fn a_word_without_a_header_says_so() {
+    assert!(lines("address").eq(["4095 4095"]));
 }
 
 #[test]

@@ -1,6 +1,7 @@
 //! What cannot be read from include/opl.h of each exported function: its refusals, its made-up inputs, and what
 //! the second implementation has for it.
 
+mod ip;
 mod payload;
 mod preamble;
 mod signalling;
