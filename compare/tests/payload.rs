@@ -1,5 +1,6 @@
 //! opl_payload_write and opl_payload_read against the second implementation: types 0 and 1, and what all types share.
-//! Words of type 2 have tests of their own besides, transport_write.rs and transport_read.rs.
+//! Words of type 2 have tests of their own besides, transport_write.rs and transport_read.rs, and so has the header of
+//! type 3, ip_header.rs.
 
 mod payload_words;
 
@@ -134,7 +135,7 @@ fn words_of_all_kinds() {
     }
 }
 
-/// Every id with every type and Encap_Ver, and these with every RFU of four bits, or with 16 of 32 bits.
+/// Every id with every type and Encap_Ver, and these with every RFU of four bits, or with 16 of 32 or 20 bits.
 #[test]
 fn every_header_field() {
     let mut rng = Rng::new(304);
@@ -142,7 +143,7 @@ fn every_header_field() {
     for ty in 0..8 {
         for encap in 0..8 {
             let number = match (encap, ty) {
-                (0, 0..=2) => 0,
+                (0, 0..=3) => 0,
                 (0, _) => 15,
                 _ => 16,
             };
@@ -295,7 +296,7 @@ fn lengths_of_the_reader() {
     for n in words {
         for length in headers {
             let right = n == 1_536 && length == 16;
-            for ty in 0..3 {
+            for ty in 0..4 {
                 let mut word = inputs::payload_word_of(&mut rng, ty);
                 word.resize(n, 0);
                 let number = both_read(&mut rng, &word, length).err();

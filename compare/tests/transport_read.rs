@@ -208,8 +208,8 @@ const HEADER: std::ops::Range<usize> = 12_228..12_274;
 const CRC: std::ops::Range<usize> = 12_274..12_282;
 const SPARE: std::ops::Range<usize> = 12_282..12_288;
 
-/// A written word has RFU 0. Then a changed bit of the type is noticed too, for all that the CRC is over 18 bits for the
-/// type that it makes.
+/// A written word has RFU 0. Then a changed bit of the type is noticed too, for all that the CRC is over 18 bits for types
+/// 0 and 6.
 #[test]
 fn one_changed_header_bit() {
     let mut rng = Rng::new(339);
@@ -227,14 +227,15 @@ fn one_changed_header_bit() {
 }
 
 /// With some other RFU a changed bit of the type is not noticed as such: the CRC over 46 bits is then that over the last
-/// 18 with the type that it makes, 3, 0 or 6. The stream id plays no part in that.
+/// 18 with the type that it makes, 0 or 6. The stream id plays no part in that. Type 3 has a CRC over 46 bits too, and so
+/// the bit that makes it is noticed whatever RFU is.
 #[test]
 fn a_changed_type_bit_that_the_crc_does_not_show() {
     let mut rng = Rng::new(345);
     for (rfu, index, due) in [
-        (0x100, 12_270, Err(15)),
         (0x620, 12_269, Ok([0, 0])),
         (0x860, 12_268, Err(15)),
+        (0x100, 12_270, Err(5)),
     ] {
         for id in 0..256 {
             let mut word = inputs::transport_word(&mut rng);
@@ -249,7 +250,8 @@ fn a_changed_type_bit_that_the_crc_does_not_show() {
     }
 }
 
-/// With the CRC put right again, over the bits that the changed type asks for: types 6, 0 and 3, or Encap_Ver not 0.
+/// With the CRC put right again, over the bits that the changed type asks for: types 6, 0 and 3, or Encap_Ver not 0. As
+/// RFU is 0, First_Header_Address of type 3 is.
 #[test]
 fn one_changed_header_bit_that_is_sealed() {
     let mut rng = Rng::new(340);
@@ -259,13 +261,13 @@ fn one_changed_header_bit_that_is_sealed() {
         flip_bit(&mut sealed, index);
         seal(&mut sealed);
         let due = match index {
-            12_268 | 12_270 => Some(15),
+            12_268 => Some(15),
             12_271..=12_273 => Some(16),
             _ => None,
         };
         let found = both_read(&mut rng, &sealed, 16);
         assert_eq!(found.err(), due, "bit {index}");
-        // what is left of the words that are accepted: type 0 at its place, else type 2
+        // what is left of the words that are accepted: type 0 at its place, else type 2 or 3
         let parity = found.map_or(ALL, |header| header[7]);
         assert_eq!(parity, if index == 12_269 { 0 } else { ALL });
     }
@@ -327,13 +329,13 @@ fn the_crc_goes_by_the_type() {
                 let (rfu, id) = (rng.field(rfu_bits(ty)), rng.field(8));
                 inputs::set_payload_header(&mut word, rfu, id, ty, encap);
                 let due = match (encap, ty) {
-                    (0, 0..=2) => None,
+                    (0, 0..=3) => None,
                     (0, _) => Some(15),
                     _ => Some(16),
                 };
                 assert_eq!(both_read(&mut rng, &word, 16).err(), due, "type {ty}");
                 let agree = crcs_agree(&word);
-                let other = if ty == 2 { 18 } else { 46 };
+                let other = if matches!(ty, 2 | 3) { 18 } else { 46 };
                 seal_over(&mut word, other);
                 let due = if agree { due } else { Some(5) };
                 assert_eq!(both_read(&mut rng, &word, 16).err(), due, "type {ty}");
@@ -356,9 +358,9 @@ fn order_of_refusals() {
         if damaged {
             (0..4).for_each(|part| flip_places(&mut word, part, &[part]));
         }
-        inputs::set_payload_header(&mut word, 0, 7, 3, 0);
+        inputs::set_payload_header(&mut word, 0, 7, 4, 0);
         assert_eq!(both_read(&mut rng, &word, 16), Err(15));
-        for ty in [2, 3] {
+        for ty in [2, 4] {
             inputs::set_payload_header(&mut word, 0, 7, ty, 1);
             assert_eq!(both_read(&mut rng, &word, 16), Err(16));
         }
