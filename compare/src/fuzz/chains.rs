@@ -1,6 +1,7 @@
 //! Cases of several calls, each given what the one before it wrote.
 
 use super::entries::held;
+use super::streams::{damaged_ip_stream, ip_stream};
 use super::{Entry, Fault, Trial, Verdict};
 use crate::calls::{
     Call, Encode, PayloadRead, PayloadWrite, Place, Preamble, PreambleForm, SignallingRead,
@@ -12,7 +13,7 @@ use crate::second::payload::{self, PARTS, TRANSPORT};
 use crate::second::preamble::{Form, FORM_BYTES};
 use crate::second::signalling;
 
-pub(super) const CHAINS: [fn(&mut Trial) -> Verdict; 9] = [
+pub(super) const CHAINS: [fn(&mut Trial) -> Verdict; 11] = [
     preamble_and_form,
     sheet_and_back,
     word_and_back,
@@ -22,6 +23,8 @@ pub(super) const CHAINS: [fn(&mut Trial) -> Verdict; 9] = [
     damaged_packets,
     sum_of_packets,
     sum_of_words,
+    ip_stream,
+    damaged_ip_stream,
 ];
 
 /// A header's parity where all parts hold.
@@ -209,7 +212,7 @@ fn value(bit: bool) -> i8 {
 }
 
 /// A difference unless what a call led to is what the chain began with.
-fn same<C: Call, T: PartialEq>(call: &C, one: &[T], other: &[T]) -> Verdict {
+pub(super) fn same<C: Call, T: PartialEq>(call: &C, one: &[T], other: &[T]) -> Verdict {
     if one == other {
         return Ok(());
     }

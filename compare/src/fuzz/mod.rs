@@ -7,6 +7,7 @@ mod difference;
 mod entries;
 mod entry;
 mod run;
+mod streams;
 mod tally;
 mod trial;
 
