@@ -58,6 +58,9 @@ static void make_call(void)
     refusal = functions[function].call(arguments);
 }
 
+/* The open packet of an IP stream: what is lent, and what it is before each call, as a call changes it. */
+static uint8_t opened[OPL_IP_OPEN_BYTES], opened_before[OPL_IP_OPEN_BYTES];
+
 static size_t bytes_taken(void)
 {
     size_t lowest = 0;
@@ -74,7 +77,9 @@ static uint8_t measure(int which, struct arguments a)
 {
     function = which;
     arguments = &a;
+    memcpy(opened, opened_before, sizeof opened);
     make_call();
+    memcpy(opened, opened_before, sizeof opened);
     call_on(stack + WORDS, make_call);
     size_t bytes = bytes_taken();
     if (bytes > most[which][refusal])
@@ -138,12 +143,12 @@ static struct crc signalling_crc(const uint8_t *word)
     return (struct crc){0, 750, 12, 0x80F};
 }
 
-/* By the word's stream type: over 46 bits for type 2, over 18 for any other. */
+/* By the word's stream type: over 46 bits for types 2 and 3, over 18 for any other. */
 static struct crc payload_crc(const uint8_t *word)
 {
     enum { TYPE_AT = 12268, CRC_AT = 12274 };
     int type = bit_of(word, TYPE_AT) << 2 | bit_of(word, TYPE_AT + 1) << 1 | bit_of(word, TYPE_AT + 2);
-    return (struct crc){CRC_AT - (type == 2 ? 46 : 18), CRC_AT, 8, 0x2F};
+    return (struct crc){CRC_AT - (type == 2 || type == 3 ? 46 : 18), CRC_AT, 8, 0x2F};
 }
 
 /* Puts the CRC right, so that a changed word is refused for what comes after. */
@@ -160,17 +165,22 @@ static void seal(uint8_t *word, struct crc crc)
             flip(word, crc.to + i);
 }
 
-/* Has a word read as it is, at a wrong length, and with each bit from crc.from on flipped, sealed again or not. */
-static void measure_reading(int which, struct crc (*crc_of)(const uint8_t *), uint8_t *word, size_t n, void *to,
-                            size_t m)
+/*
+ * Has a word, the first buffer that is lent, read as it is, with each other buffer at a wrong length, and with each bit
+ * from crc.from on flipped, sealed again or not.
+ */
+static void measure_reading(int which, struct crc (*crc_of)(const uint8_t *), struct arguments a)
 {
-    struct arguments a = {.buffer = {{word, n}, {to, m}}};
+    uint8_t *word = a.buffer[0].lent;
+    size_t n = a.buffer[0].n;
     struct crc crc = crc_of(word);
     if (measure(which, a) != OPL_ACCEPTED)
         fail("a word that was written is not read");
-    a.buffer[1].n--;
-    measure(which, a);
-    a.buffer[1].n++;
+    for (size_t i = 1; i < functions[which].buffers; i++) {
+        a.buffer[i].n--;
+        measure(which, a);
+        a.buffer[i].n++;
+    }
     for (size_t i = crc.from; i < 8 * n; i++) {
         flip(word, i);
         measure(which, a);
@@ -188,8 +198,9 @@ static void measure_sheet(uint8_t *sheet, size_t n)
 {
     static uint8_t word[OPL_SIGNALLING_BYTES], room[OPL_SHEET_ROOM];
     struct arguments a = {.buffer = {{sheet, n}, {word, sizeof word}}};
+    struct arguments reading = {.buffer = {{word, sizeof word}, {room, sizeof room}}};
     if (measure(SIGNALLING_WRITE, a) == OPL_ACCEPTED)
-        measure_reading(SIGNALLING_READ, signalling_crc, word, sizeof word, room, sizeof room);
+        measure_reading(SIGNALLING_READ, signalling_crc, reading);
     a.buffer[1].n--;
     measure(SIGNALLING_WRITE, a);
     a.buffer[1].n++;
@@ -216,9 +227,10 @@ static void measure_packets(uint32_t type, uint32_t count, uint8_t *payload, siz
 {
     static uint8_t null_packet[OPL_TS_PACKET_BYTES], word[OPL_PAYLOAD_WORD_BYTES], header[OPL_PAYLOAD_HEADER_BYTES];
     struct arguments a = {{type, 9, count}, {{payload, n}, {null_packet, sizeof null_packet}, {word, sizeof word}}};
+    struct arguments reading = {.buffer = {{word, sizeof word}, {header, sizeof header}}};
     memset(null_packet, 0xFF, sizeof null_packet);
     if (measure(PAYLOAD_WRITE, a) == OPL_ACCEPTED)
-        measure_reading(PAYLOAD_READ, payload_crc, word, sizeof word, header, sizeof header);
+        measure_reading(PAYLOAD_READ, payload_crc, reading);
     a.buffer[1].n--;
     measure(PAYLOAD_WRITE, a);
 }
@@ -235,6 +247,101 @@ static void measure_payload(void)
             measure_packets(type, count, payload, OPL_PAYLOAD_BYTES);
             measure_packets(type, count, payload, count * OPL_TS_PACKET_BYTES);
         }
+}
+
+/* A number of four bytes. */
+static uint32_t number_at(const uint8_t *bytes)
+{
+    return (uint32_t)bytes[0] << 24 | (uint32_t)bytes[1] << 16 | (uint32_t)bytes[2] << 8 | bytes[3];
+}
+
+/* What stands before a packet's data in a queue. */
+enum { LABEL = 4 };
+
+/* Adds packets of this length to a queue of n bytes, as many as there is room for, and gives its bytes. */
+static size_t add_packets(uint8_t *queue, size_t n, size_t room, size_t length)
+{
+    for (; n + LABEL + length <= room; n += LABEL + length) {
+        queue[n] = 1;
+        queue[n + 1] = 0;
+        queue[n + 2] = (uint8_t)(length >> 8);
+        queue[n + 3] = (uint8_t)length;
+        memset(queue + n + LABEL, 0x5A, length);
+    }
+    return n;
+}
+
+/* Has a queue written whose first packet is unfit, of which a byte is said to be sent, or at a wrong length. */
+static void measure_queue_faults(struct arguments a)
+{
+    uint8_t *queue = a.buffer[0].lent;
+    struct arguments begun = a;
+    queue[0] = 3;
+    measure(IP_WRITE, a);
+    queue[0] = 1;
+    begun.number[1] = 1;
+    measure(IP_WRITE, begun);
+    for (size_t i = 0; i < functions[IP_WRITE].buffers; i++) {
+        a.buffer[i].n--;
+        measure(IP_WRITE, a);
+        a.buffer[i].n++;
+    }
+}
+
+/* Has a word read by both readers, and with each bit of its first bytes flipped, be they a packet's header or not. */
+static void measure_stream_word(uint8_t *word)
+{
+    static uint8_t packets[OPL_IP_ROOM], header[OPL_PAYLOAD_HEADER_BYTES];
+    struct arguments a = {.buffer = {{word, OPL_PAYLOAD_WORD_BYTES},
+                                     {opened, sizeof opened},
+                                     {packets, sizeof packets},
+                                     {header, sizeof header}}};
+    struct arguments of_header = {.buffer = {{word, OPL_PAYLOAD_WORD_BYTES}, {header, sizeof header}}};
+    measure_reading(PAYLOAD_READ, payload_crc, of_header);
+    measure_reading(IP_READ, payload_crc, a);
+    for (size_t i = 0; i < 16; i++) {
+        flip(word, i);
+        measure(IP_READ, a);
+        flip(word, i);
+    }
+    if (measure(IP_READ, a) != OPL_ACCEPTED)
+        fail("a word of a stream is not read");
+}
+
+/* Has a queue written word by word, and each word read with what the words before it left open. */
+static void measure_stream(uint8_t *queue, size_t n, uint32_t sent)
+{
+    static uint8_t word[OPL_PAYLOAD_WORD_BYTES], progress[OPL_IP_PROGRESS_BYTES];
+    struct arguments lost = {.buffer = {{opened, sizeof opened}}};
+    while (n > 0) {
+        struct arguments a = {{9, sent}, {{queue, n}, {word, sizeof word}, {progress, sizeof progress}}};
+        measure_queue_faults(a);
+        if (measure(IP_WRITE, a) != OPL_ACCEPTED)
+            fail("a queue is not written");
+        measure_stream_word(word);
+        memcpy(opened_before, opened, sizeof opened);
+        queue += number_at(progress);
+        n -= number_at(progress);
+        sent = number_at(progress + 4);
+    }
+    measure(IP_LOST, lost);
+    lost.buffer[0].n--;
+    measure(IP_LOST, lost);
+}
+
+/* Has streams of packets of one length tried; and a word that hands out the most, behind a packet that lacks a byte. */
+static void measure_streams(void)
+{
+    enum { LONGEST = LABEL + OPL_IP_PACKET_MOST };
+    static const size_t lengths[] = {1, 40, 1500, OPL_IP_PACKET_MOST};
+    static uint8_t queue[2 * LONGEST];
+    for (size_t i = 0; i < sizeof lengths / sizeof lengths[0]; i++)
+        measure_stream(queue, add_packets(queue, 0, sizeof queue, lengths[i]), 0);
+    size_t n = add_packets(queue, 0, LONGEST, OPL_IP_PACKET_MOST);
+    n = add_packets(queue, n, OPL_IP_ROOM, 1);
+    memset(opened_before, 0x5A, sizeof opened_before);
+    memcpy(opened_before, (const uint8_t[]){1, 1, 0, 0, 0x0F, 0xFF, 0x0F, 0xFE}, 8);
+    measure_stream(queue, n, OPL_IP_PACKET_MOST + 1);
 }
 
 /* The two blocks: the bytes of an infoword and the places of a lane. */
@@ -297,6 +404,7 @@ int main(int words, char **word)
     fill();
     measure_preamble();
     measure_payload();
+    measure_streams();
     measure_coding();
     measure_spare();
     for (int i = 1; i < words; i++)
