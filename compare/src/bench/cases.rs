@@ -1,7 +1,7 @@
 //! The rows: for each exported function the cases that it is measured on.
 
-use super::library;
 use super::row::{row, Row, Tables, Title};
+use super::{library, streams};
 use crate::inputs::{
     infoword, packets, points_at_the_bound, set_payload_header, transport_word, values, Coding,
 };
@@ -21,7 +21,14 @@ const CODINGS: [Coding; 5] = [
     coding(0, SIGNALLING_BLOCK),
 ];
 
-const STREAM_TYPES: [u32; 3] = [payload::DUMMY, payload::TRANSPARENT, payload::TRANSPORT];
+/// The stream types of what is written as a payload word, and of what is read as one.
+const WRITTEN_TYPES: [u32; 3] = [payload::DUMMY, payload::TRANSPARENT, payload::TRANSPORT];
+const READ_TYPES: [u32; 4] = [
+    payload::DUMMY,
+    payload::TRANSPARENT,
+    payload::TRANSPORT,
+    payload::IP,
+];
 
 const STORY: &[u8] = include_bytes!("../../../examples/sheets/story.sheet");
 
@@ -36,8 +43,9 @@ pub fn rows(encoder: &Encoder) -> Rows<'_> {
     rows.extend(CODINGS.map(place));
     rows.extend(sheets().map(|(case, sheet)| signalling_write(case, sheet)));
     rows.extend(sheets().map(|(case, sheet)| signalling_read(case, sheet)));
-    rows.extend(STREAM_TYPES.map(payload_write));
-    rows.extend(STREAM_TYPES.map(payload_read));
+    rows.extend(WRITTEN_TYPES.map(payload_write));
+    rows.extend(READ_TYPES.map(payload_read));
+    rows.extend(streams::rows());
     rows.extend([("upright", 0), ("inverted", 1)].map(sof_preamble));
     rows.extend(preambles().map(preamble_form));
     rows
@@ -175,10 +183,10 @@ fn payload_read<'a>(ty: u32) -> Box<dyn Row + 'a> {
     )
 }
 
-/// Any word of the type, one of type 2 with the parity that its packets have.
+/// Any word of the type, one of type 2 or 3 with the parity that its packets have.
 fn payload_word(rng: &mut Rng, ty: u32) -> Vec<u8> {
     let mut word = match ty {
-        payload::TRANSPORT => transport_word(rng),
+        payload::TRANSPORT | payload::IP => transport_word(rng),
         _ => rng.bytes(payload::WORD_BYTES),
     };
     let (rfu, id) = (rng.field(payload::rfu_bits(ty)), rng.field(8));

@@ -6,6 +6,7 @@ mod counts;
 mod library;
 mod report;
 mod row;
+mod streams;
 mod times;
 
 pub use cases::rows;
