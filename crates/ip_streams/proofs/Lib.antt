@@ -1,0 +1,5 @@
+pub mod OneRead
+pub mod OneWrite
+pub mod Delivery
+pub mod Returns
+pub mod Promised

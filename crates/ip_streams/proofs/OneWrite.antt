@@ -1,0 +1,120 @@
+-- One call of the writer: what it leaves, and where the queue then stands.
+-- Assumes nothing.
+use Prim.Native.Nat.{ℕ, zero, suc, _+_, _≤_, _<_}
+use mathlib.Core.Bool.{Bool, true, false, not}
+use mathlib.Core.Path.{_≡_, refl, sym, ap, ap₂, _∙_, subst}
+use mathlib.Core.List.{List, [], _∷_, _++_}
+use native.Mathlib.Omega.{arith}
+use borrow.Author.Tests.{eq-eqb, ne-eqb, le-ltb}
+use lib.ListN.{length, take, drop, replicate}
+use lib.Seq.{take-at, drop-at}
+use Rattle.ground.specs.Outcome.{Is}
+use Rattle.ground.specs.Choice.{choose, firstOf}
+use Rattle.ground.proofs.Choice.{choose-true, skip}
+use Rattle.bits.specs.Lists.{bits, num, unpack, pack}
+use Rattle.bits.proofs.Lists.{bits-length, bits-below, num-bits, unpack-pack, pack-length}
+use Rattle.infoword.specs.Word.{ipWord}
+use Rattle.ip.specs.Packet.{Packet, AllFit}
+use Rattle.ip.specs.Write.{address, wordFill, toCome, fill, InPlace}
+use Rattle.ip.specs.Stream.{kept}
+use Rattle.ip.specs.Memory.{queue, Queue, holds, queueIn}
+use Rattle.ip.proofs.Step.{place-after}
+use Rattle.ip.proofs.Stream.{fit-drop}
+use Rattle.ip_write.specs.Writing.{misplaced, writeFaults, progressOf, written}
+use Rattle.ip_write.proofs.Places.{done-most, queue-drop}
+use Rattle.ip_write.proofs.Refusals.{none-wrong}
+use Rattle.ip_streams.specs.Calls.{WriteCall, doneOf, sentOf}
+use Rattle.ip_streams.specs.Streams.{NothingToCarry}
+
+-- a call that had the outcome that the writer's promise gives
+abbrev pub Wrote : WriteCall → Type 0
+Wrote c = Is (written (c .id) (c .sent) (c .queue) (c .word) (c .progress)) (c .answer) (c .leftWord, c .leftProgress) × (c .id < 256)
+
+-- `sent` in its place is not out of it
+placed : (s : ℕ) (q : List Packet) → InPlace s q → misplaced s q ≡ false
+unfolding misplaced
+placed zero q at = refl
+placed (suc s) [] at = absurd at
+placed (suc s) (p ∷ q) at = skip (ne-eqb s 0 (λ z. omega (arith, at .0, z))) (le-ltb (length (p .bytes)) s (at .1))
+
+-- and no more than 4,096
+small : (s : ℕ) (q : List Packet) → AllFit q → InPlace s q → s ≤ 4096
+small zero q fit at = omega arith
+small (suc s) [] fit at = absurd at
+small (suc s) (p ∷ q) fit at = omega (arith, at .1, fit .0 .most)
+
+-- a number of four bytes
+four-back : (v : ℕ) → v < 4294967296 → num (unpack (pack 4 (bits 32 v))) ≡ v
+four-back v h = ap num (unpack-pack 4 (bits 32 v) (bits-below 32 v) (bits-length 32 v)) ∙ num-bits 32 v h
+
+module _ (c : WriteCall) (did : Wrote c) (q : List Packet) (held : queueIn 0 (c .queue) ≡ holds q) (fit : AllFit q) (at : InPlace (c .sent) q)
+    (word-is : length (c .word) ≡ 1536) (progress-is : length (c .progress) ≡ 8) where
+  abbrev k : Queue
+  k = queueIn 0 (c .queue)
+
+  abbrev refused : ℕ
+  refused = firstOf (writeFaults (c .sent) k (length (c .word)) (length (c .progress)))
+
+  packets-are : k .packets ≡ q
+  packets-are = ap (λ (x : Queue). x .packets) held
+
+  none : refused ≡ 0
+  none =
+      sym (none-wrong (c .sent) k (length (c .word)) (length (c .progress)) (ap (λ (x : Queue). x .number) held)
+      (ap (misplaced (c .sent)) packets-are ∙ placed (c .sent) q at) word-is progress-is)
+
+  pub wrote : c .answer ≡ 0
+  unfolding written
+  wrote = did .0 .answer ∙ none
+
+  abbrev after : List ℕ × List ℕ
+  after = (c .leftWord, c .leftProgress)
+
+  abbrev before : List ℕ × List ℕ
+  before = (c .word, c .progress)
+
+  abbrev from : List Packet → List ℕ × List ℕ
+  from x = (ipWord (c .id) (address (c .sent) x) (wordFill (c .sent) x .bytes), progressOf (c .sent) x)
+
+  left : after ≡ from q
+  unfolding written
+  left = did .0 .memory ∙ choose-true (from (k .packets)) before (eq-eqb refused 0 none) ∙ ap from packets-are
+
+  pub word-left : c .leftWord ≡ ipWord (c .id) (address (c .sent) q) (wordFill (c .sent) q .bytes)
+  word-left = ap (λ x. x .0) left
+
+  pub progress-left : c .leftProgress ≡ progressOf (c .sent) q
+  progress-left = ap (λ x. x .1) left
+
+  abbrev done : ℕ
+  done = length (queue (take (wordFill (c .sent) q .done) q))
+
+  pub done-is : doneOf c ≡ done
+  unfolding progressOf
+  done-is =
+      ap (λ (l : List ℕ). num (unpack (take 4 l))) progress-left
+      ∙ ap (λ (l : List ℕ). num (unpack l)) (take-at (pack 4 (bits 32 done)) (pack 4 (bits 32 (wordFill (c .sent) q .sent))) 4 (pack-length 4 (bits 32 done)))
+      ∙ four-back done (omega (arith, done-most (c .sent) q fit at))
+
+  pub sent-is : sentOf c ≡ wordFill (c .sent) q .sent
+  unfolding progressOf
+  sent-is =
+      let s : ℕ = wordFill (c .sent) q .sent in
+      ap (λ (l : List ℕ). num (unpack (drop 4 l))) progress-left
+      ∙ ap (λ (l : List ℕ). num (unpack l)) (drop-at (pack 4 (bits 32 done)) (pack 4 (bits 32 s)) 4 (pack-length 4 (bits 32 done)))
+      ∙ four-back s (omega (arith, small s (kept (c .sent) q) (fit-drop (wordFill (c .sent) q .done) q fit) (place-after (c .sent) q fit at)))
+
+  -- what then waits
+  pub queue-left : queueIn 0 (drop (doneOf c) (c .queue)) ≡ holds (kept (c .sent) q)
+  queue-left = ap (λ (n : ℕ). queueIn 0 (drop n (c .queue))) done-is ∙ queue-drop (wordFill (c .sent) q .done) (c .queue) q held
+
+-- nothing to carry
+pub nothing-to-carry : (c : WriteCall) → Wrote c → NothingToCarry c
+unfolding queueIn progressOf fill toCome pack bits num queue
+nothing-to-carry c did s e l p =
+    let held : queueIn 0 (c .queue) ≡ holds [] = ap (queueIn 0) e in
+    let at : InPlace (c .sent) [] = subst (λ (x : ℕ). InPlace x []) (sym s) tt in (
+      wrote c did [] held tt at l p,
+      word-left c did [] held tt at l p ∙ ap (λ (x : ℕ). ipWord (c .id) (address x []) (wordFill x [] .bytes)) s,
+      progress-left c did [] held tt at l p ∙ ap (λ (x : ℕ). progressOf x []) s,
+    )

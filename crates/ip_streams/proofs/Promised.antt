@@ -1,0 +1,131 @@
+-- Streams of calls of the functions themselves: each call kept its function's own promise, and so all that is claimed of such calls holds.
+-- Assumes nothing.
+use Prim.Native.Nat.{ℕ}
+use mathlib.Core.Path.{_≡_, sym, subst}
+use mathlib.Core.List.{List, [], _∷_}
+use contract.Lifetimes.{Lfts}
+use borrow.Fn.World.{ArgsD, ResD}
+use borrow.Fn.Kinds.{endedOf}
+use denote.Ref.{now}
+use denote.Triple.Clauses.{AtExit}
+use Rattle.ip_write.proofs.write as write
+use Rattle.ip_write.proofs.write.Kinds as write-kinds
+use Rattle.ip_write.proofs.write.Reads as write-reads
+use Rattle.ip_read.proofs.read as read
+use Rattle.ip_read.proofs.read.Kinds as read-kinds
+use Rattle.ip_read.proofs.read.Reads as read-reads
+use Rattle.ip_read.proofs.lost as lost
+use Rattle.ip_read.proofs.lost.Kinds as lost-kinds
+use Rattle.ip_read.proofs.lost.Reads as lost-reads
+use Rattle.ip_streams.specs.Calls.{WriteCall, ReadCall, LostCall, Step, reads, loses, passes}
+use Rattle.ip_streams.specs.Streams.{Delivers, ComesBack, Ends, OnlyWhole, RefusedLeaves, OthersPass, NothingToCarry}
+use Rattle.ip_streams.proofs.OneWrite.{Wrote, nothing-to-carry}
+use Rattle.ip_streams.proofs.OneRead.{Did, Dropped, only-whole-come, refused-leaves, others-pass}
+use Rattle.ip_streams.proofs.Delivery.{AllWrote, AllDid, delivers}
+use Rattle.ip_streams.proofs.Returns.{comes-back, ends}
+
+-- a call ip_write::write(id, sent, queue, word, progress)
+abbrev writeCall : (κs : Lfts 3) → ArgsD write.signature κs → ResD write.signature κs → AtExit (endedOf 3 write-kinds.ps write-kinds.r) κs → WriteCall
+writeCall κs a r s = record {
+  id = a .0;
+  sent = a .1 .0;
+  queue = now (a .1 .1 .0);
+  word = now (a .1 .1 .1 .0);
+  progress = now (a .1 .1 .1 .1 .0);
+  answer = r;
+  leftWord = now (s .1 .1 .1 .0);
+  leftProgress = now (s .1 .1 .1 .1 .0);
+}
+
+-- a call ip_read::read(word, memory, packets, header)
+abbrev readCall : (κs : Lfts 4) → ArgsD read.signature κs → ResD read.signature κs → AtExit (endedOf 4 read-kinds.ps read-kinds.r) κs → ReadCall
+readCall κs a r s = record {
+  word = now (a .0);
+  held = now (a .1 .0);
+  packets = now (a .1 .1 .0);
+  header = now (a .1 .1 .1 .0);
+  answer = r;
+  leftHeld = now (s .1 .0);
+  leftPackets = now (s .1 .1 .0);
+  leftHeader = now (s .1 .1 .1 .0);
+}
+
+-- a call ip_read::lost(memory)
+abbrev lostCall : (κs : Lfts 1) → ArgsD lost.signature κs → ResD lost.signature κs → AtExit (endedOf 1 lost-kinds.ps lost-kinds.r) κs → LostCall
+lostCall κs a r s = record { held = now (a .0); answer = r; leftHeld = now (s .0) }
+
+-- calls that kept the functions' promises
+pub record Writes (c : WriteCall) : Type 1 where
+  pub κs : Lfts 3
+  pub args : ArgsD write.signature κs
+  pub result : ResD write.signature κs
+  pub exit : AtExit (endedOf 3 write-kinds.ps write-kinds.r) κs
+  pub kept : write-reads.Post κs args result exit
+  pub is : c ≡ writeCall κs args result exit
+
+pub record Reading (c : ReadCall) : Type 1 where
+  pub κs : Lfts 4
+  pub args : ArgsD read.signature κs
+  pub result : ResD read.signature κs
+  pub exit : AtExit (endedOf 4 read-kinds.ps read-kinds.r) κs
+  pub kept : read-reads.Post κs args result exit
+  pub is : c ≡ readCall κs args result exit
+
+pub record Losing (c : LostCall) : Type 1 where
+  pub κs : Lfts 1
+  pub args : ArgsD lost.signature κs
+  pub result : ResD lost.signature κs
+  pub exit : AtExit (endedOf 1 lost-kinds.ps lost-kinds.r) κs
+  pub kept : lost-reads.Post κs args result exit
+  pub is : c ≡ lostCall κs args result exit
+
+abbrev pub AllWrites : List WriteCall → Type 1
+AllWrites [] = Unit
+AllWrites (c ∷ cs) = Writes c × AllWrites cs
+
+abbrev pub AllSteps : List Step → Type 1
+AllSteps [] = Unit
+AllSteps (reads a ∷ ss) = Reading a × AllSteps ss
+AllSteps (loses b ∷ ss) = Losing b × AllSteps ss
+AllSteps (passes a ∷ ss) = Reading a × AllSteps ss
+
+wrote : (c : WriteCall) → Writes c → Wrote c
+wrote c w = subst Wrote (sym (w .is)) (w .kept)
+
+did : (a : ReadCall) → Reading a → Did a
+did a r = subst Did (sym (r .is)) (r .kept)
+
+all-wrote : (cs : List WriteCall) → AllWrites cs → AllWrote cs
+all-wrote [] h = tt
+all-wrote (c ∷ cs) h = (wrote c (h .0), all-wrote cs (h .1))
+
+all-did : (ss : List Step) → AllSteps ss → AllDid ss
+all-did [] h = tt
+all-did (reads a ∷ ss) h = (did a (h .0), all-did ss (h .1))
+all-did (loses b ∷ ss) h = (subst Dropped (sym (h .0 .is)) (h .0 .kept), all-did ss (h .1))
+all-did (passes a ∷ ss) h = (did a (h .0), all-did ss (h .1))
+
+-- with any words of a written stream lost, what is handed out is exactly the packets all of whose words came
+pub stream-delivered : (js : List (List ℕ)) (cs : List WriteCall) (ss : List Step) → AllWrites cs → AllSteps ss → Delivers js cs ss
+stream-delivered js cs ss w r = delivers js cs ss (all-wrote cs w) (all-did ss r)
+
+-- with none lost, and nothing that waits any more, all of them
+pub stream-back : (js : List (List ℕ)) (cs : List WriteCall) (ss : List Step) → AllWrites cs → AllSteps ss → ComesBack js cs ss
+stream-back js cs ss w r = comes-back js cs ss (all-wrote cs w) (all-did ss r)
+
+-- and it ends
+pub stream-ends : (q : List ℕ) (cs : List WriteCall) → AllWrites cs → Ends q cs
+stream-ends q cs w = ends q cs (all-wrote cs w)
+
+-- of one call
+pub read-only-whole : (a : ReadCall) → Reading a → OnlyWhole a
+read-only-whole a r = only-whole-come a (did a r)
+
+pub read-refused-leaves : (a : ReadCall) → Reading a → RefusedLeaves a
+read-refused-leaves a r = refused-leaves a (did a r)
+
+pub read-others-pass : (a : ReadCall) → Reading a → OthersPass a
+read-others-pass a r = others-pass a (did a r)
+
+pub write-nothing : (c : WriteCall) → Writes c → NothingToCarry c
+write-nothing c w = nothing-to-carry c (wrote c w)
