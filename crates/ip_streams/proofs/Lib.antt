@@ -2,4 +2,5 @@ pub mod OneRead
 pub mod OneWrite
 pub mod Delivery
 pub mod Returns
+pub mod Kept
 pub mod Promised

@@ -2,7 +2,7 @@
 -- Assumes nothing.
 use Prim.Native.Nat.{ℕ}
 use mathlib.Core.Path.{_≡_, sym, subst}
-use mathlib.Core.List.{List, [], _∷_}
+use mathlib.Core.List.{List}
 use contract.Lifetimes.{Lfts}
 use borrow.Fn.World.{ArgsD, ResD}
 use borrow.Fn.Kinds.{endedOf}
@@ -17,12 +17,11 @@ use Rattle.ip_read.proofs.read.Reads as read-reads
 use Rattle.ip_read.proofs.lost as lost
 use Rattle.ip_read.proofs.lost.Kinds as lost-kinds
 use Rattle.ip_read.proofs.lost.Reads as lost-reads
-use Rattle.ip_streams.specs.Calls.{WriteCall, ReadCall, LostCall, Step, reads, loses, passes}
+use Rattle.ip_streams.specs.Calls.{WriteCall, ReadCall, LostCall, Step}
 use Rattle.ip_streams.specs.Streams.{Delivers, ComesBack, Ends, OnlyWhole, RefusedLeaves, OthersPass, NothingToCarry}
 use Rattle.ip_streams.proofs.OneWrite.{Wrote, nothing-to-carry}
 use Rattle.ip_streams.proofs.OneRead.{Did, Dropped, only-whole-come, refused-leaves, others-pass}
-use Rattle.ip_streams.proofs.Delivery.{AllWrote, AllDid, delivers}
-use Rattle.ip_streams.proofs.Returns.{comes-back, ends}
+use Rattle.ip_streams.proofs.Kept.{AllWrites, AllSteps, kept-delivers, kept-comes-back, kept-ends}
 
 -- a call ip_write::write(id, sent, queue, word, progress)
 abbrev writeCall : (κs : Lfts 3) → ArgsD write.signature κs → ResD write.signature κs → AtExit (endedOf 3 write-kinds.ps write-kinds.r) κs → WriteCall
@@ -79,43 +78,26 @@ pub record Losing (c : LostCall) : Type 1 where
   pub kept : lost-reads.Post κs args result exit
   pub is : c ≡ lostCall κs args result exit
 
-abbrev pub AllWrites : List WriteCall → Type 1
-AllWrites [] = Unit
-AllWrites (c ∷ cs) = Writes c × AllWrites cs
-
-abbrev pub AllSteps : List Step → Type 1
-AllSteps [] = Unit
-AllSteps (reads a ∷ ss) = Reading a × AllSteps ss
-AllSteps (loses b ∷ ss) = Losing b × AllSteps ss
-AllSteps (passes a ∷ ss) = Reading a × AllSteps ss
-
 wrote : (c : WriteCall) → Writes c → Wrote c
 wrote c w = subst Wrote (sym (w .is)) (w .kept)
 
 did : (a : ReadCall) → Reading a → Did a
 did a r = subst Did (sym (r .is)) (r .kept)
 
-all-wrote : (cs : List WriteCall) → AllWrites cs → AllWrote cs
-all-wrote [] h = tt
-all-wrote (c ∷ cs) h = (wrote c (h .0), all-wrote cs (h .1))
-
-all-did : (ss : List Step) → AllSteps ss → AllDid ss
-all-did [] h = tt
-all-did (reads a ∷ ss) h = (did a (h .0), all-did ss (h .1))
-all-did (loses b ∷ ss) h = (subst Dropped (sym (h .0 .is)) (h .0 .kept), all-did ss (h .1))
-all-did (passes a ∷ ss) h = (did a (h .0), all-did ss (h .1))
+dropped : (b : LostCall) → Losing b → Dropped b
+dropped b l = subst Dropped (sym (l .is)) (l .kept)
 
 -- with any words of a written stream lost, what is handed out is exactly the packets all of whose words came
-pub stream-delivered : (js : List (List ℕ)) (cs : List WriteCall) (ss : List Step) → AllWrites cs → AllSteps ss → Delivers js cs ss
-stream-delivered js cs ss w r = delivers js cs ss (all-wrote cs w) (all-did ss r)
+pub stream-delivered : (js : List (List ℕ)) (cs : List WriteCall) (ss : List Step) → AllWrites Writes Reading Losing cs → AllSteps Writes Reading Losing ss → Delivers js cs ss
+stream-delivered = kept-delivers Writes Reading Losing wrote did dropped
 
 -- with none lost, and nothing that waits any more, all of them
-pub stream-back : (js : List (List ℕ)) (cs : List WriteCall) (ss : List Step) → AllWrites cs → AllSteps ss → ComesBack js cs ss
-stream-back js cs ss w r = comes-back js cs ss (all-wrote cs w) (all-did ss r)
+pub stream-back : (js : List (List ℕ)) (cs : List WriteCall) (ss : List Step) → AllWrites Writes Reading Losing cs → AllSteps Writes Reading Losing ss → ComesBack js cs ss
+stream-back = kept-comes-back Writes Reading Losing wrote did dropped
 
 -- and it ends
-pub stream-ends : (q : List ℕ) (cs : List WriteCall) → AllWrites cs → Ends q cs
-stream-ends q cs w = ends q cs (all-wrote cs w)
+pub stream-ends : (q : List ℕ) (cs : List WriteCall) → AllWrites Writes Reading Losing cs → Ends q cs
+stream-ends = kept-ends Writes Reading Losing wrote did dropped
 
 -- of one call
 pub read-only-whole : (a : ReadCall) → Reading a → OnlyWhole a

@@ -1,6 +1,6 @@
 -- Of every exported function: any two outcomes that its promise allows agree.
 -- Assumes nothing.
-use mathlib.Core.Path.{_≡_}
+use mathlib.Core.Path.{_≡_, ap}
 use contract.Lifetimes.{Lfts}
 use borrow.Fn.World.{ArgsD, ResD}
 use borrow.Fn.Kinds.{endedOf}
@@ -31,6 +31,15 @@ use Rattle.opl.proofs.opl_encode.Reads as opl-encode-reads
 use Rattle.opl.proofs.opl_place as opl-place
 use Rattle.opl.proofs.opl_place.Kinds as opl-place-kinds
 use Rattle.opl.proofs.opl_place.Reads as opl-place-reads
+use Rattle.opl.proofs.opl_ip_write as opl-ip-write
+use Rattle.opl.proofs.opl_ip_write.Kinds as opl-ip-write-kinds
+use Rattle.opl.proofs.opl_ip_write.Reads as opl-ip-write-reads
+use Rattle.opl.proofs.opl_ip_read as opl-ip-read
+use Rattle.opl.proofs.opl_ip_read.Kinds as opl-ip-read-kinds
+use Rattle.opl.proofs.opl_ip_read.Reads as opl-ip-read-reads
+use Rattle.opl.proofs.opl_ip_lost as opl-ip-lost
+use Rattle.opl.proofs.opl_ip_lost.Kinds as opl-ip-lost-kinds
+use Rattle.opl.proofs.opl_ip_lost.Reads as opl-ip-lost-reads
 
 module _ (κs : Lfts 1) (a : ArgsD opl-preamble.signature κs) where
   pub opl-preamble-agrees : (r r′ : ResD opl-preamble.signature κs) (s s′ : AtExit (endedOf 1 opl-preamble-kinds.ps opl-preamble-kinds.r) κs) →
@@ -71,3 +80,24 @@ module _ (κs : Lfts 2) (a : ArgsD opl-place.signature κs) where
   pub opl-place-agrees : (r r′ : ResD opl-place.signature κs) (s s′ : AtExit (endedOf 2 opl-place-kinds.ps opl-place-kinds.r) κs) →
       opl-place-reads.Post κs a r s → opl-place-reads.Post κs a r′ s′ → (r ≡ r′) × (now (s .1 .1 .0) ≡ now (s′ .1 .1 .0))
   opl-place-agrees r r′ s s′ p q = agree p q
+
+module _ (κs : Lfts 3) (a : ArgsD opl-ip-write.signature κs) where
+  pub opl-ip-write-agrees : (r r′ : ResD opl-ip-write.signature κs) (s s′ : AtExit (endedOf 3 opl-ip-write-kinds.ps opl-ip-write-kinds.r) κs) →
+      opl-ip-write-reads.Post κs a r s → opl-ip-write-reads.Post κs a r′ s′
+      → (r ≡ r′) × (now (s .1 .1 .1 .0) ≡ now (s′ .1 .1 .1 .0)) × (now (s .1 .1 .1 .1 .0) ≡ now (s′ .1 .1 .1 .1 .0))
+  opl-ip-write-agrees r r′ s s′ p q =
+      let e = agree (p .0) (q .0) in
+      (e .0, ap (λ x. x .0) (e .1), ap (λ x. x .1) (e .1))
+
+module _ (κs : Lfts 4) (a : ArgsD opl-ip-read.signature κs) where
+  pub opl-ip-read-agrees : (r r′ : ResD opl-ip-read.signature κs) (s s′ : AtExit (endedOf 4 opl-ip-read-kinds.ps opl-ip-read-kinds.r) κs) →
+      opl-ip-read-reads.Post κs a r s → opl-ip-read-reads.Post κs a r′ s′
+      → (r ≡ r′) × (now (s .1 .0) ≡ now (s′ .1 .0)) × (now (s .1 .1 .0) ≡ now (s′ .1 .1 .0)) × (now (s .1 .1 .1 .0) ≡ now (s′ .1 .1 .1 .0))
+  opl-ip-read-agrees r r′ s s′ p q =
+      let e = agree p q in
+      (e .0, ap (λ x. x .0) (e .1), ap (λ x. x .1) (e .1), ap (λ x. x .2) (e .1))
+
+module _ (κs : Lfts 1) (a : ArgsD opl-ip-lost.signature κs) where
+  pub opl-ip-lost-agrees : (r r′ : ResD opl-ip-lost.signature κs) (s s′ : AtExit (endedOf 1 opl-ip-lost-kinds.ps opl-ip-lost-kinds.r) κs) →
+      opl-ip-lost-reads.Post κs a r s → opl-ip-lost-reads.Post κs a r′ s′ → (r ≡ r′) × (now (s .0) ≡ now (s′ .0))
+  opl-ip-lost-agrees r r′ s s′ p q = agree p q

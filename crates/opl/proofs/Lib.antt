@@ -6,3 +6,4 @@ pub mod Placed
 pub mod Sums
 pub mod DemandWrite
 pub mod RoundTrip
+pub mod IpStreams

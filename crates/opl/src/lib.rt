@@ -10,6 +10,8 @@ ghost use Rattle.description.specs.Word.{reading};
 ghost use Rattle.description.specs.Form1.{writing};
 ghost use Rattle.encapsulation.specs.Writing.{written as payloadWritten};
 ghost use Rattle.payload.specs.Answers.{readInto};
+ghost use Rattle.ip_write.specs.Writing.{written as ipWritten};
+ghost use Rattle.ip_read.specs.Reading.{dropping, readInto as ipReadInto};
 ghost use Rattle.turbo.specs.Encode.{encoded};
 ghost use Rattle.placement.specs.Place.{placing};
 ghost use Rattle.preamble.specs.Preamble.{written};
@@ -71,6 +73,41 @@ pub extern "C" fn opl_payload_read(word: &[u8], header: &mut [u8]) -> u8
     ensures { λ r. ⌜ Is (readInto (now (word .entry)) (now (header .entry))) r (now (header .exit)) ⌝ }
 {
     payload::read_into(word, header)
+}
+
+// The next word of an IP stream, from the packets that wait, into 1,536 bytes, and how much of the queue is done with into 8.
+#[no_mangle]
+pub extern "C" fn opl_ip_write(
+    id: u8,
+    sent: u32,
+    queue: &[u8],
+    word: &mut [u8],
+    progress: &mut [u8],
+) -> u8
+    ensures { λ r. ⌜ Is (ipWritten id sent (now (queue .entry)) (now (word .entry)) (now (progress .entry))) r (now (word .exit), now (progress .exit)) × (id < 256) ⌝ }
+{
+    ip_write::write(id, sent, queue, word, progress)
+}
+
+// The next word of an IP stream, with the memory of the open packet: whole packets to the front of packets, and the header into 16 bytes.
+#[no_mangle]
+pub extern "C" fn opl_ip_read(
+    word: &[u8],
+    memory: &mut [u8],
+    packets: &mut [u8],
+    header: &mut [u8],
+) -> u8
+    ensures { λ r. ⌜ Is (ipReadInto (now (word .entry)) (now (memory .entry)) (now (packets .entry)) (now (header .entry))) r (now (memory .exit), now (packets .exit), now (header .exit)) ⌝ }
+{
+    ip_read::read(word, memory, packets, header)
+}
+
+// A word of an IP stream was lost: the memory of the open packet holds none afterwards.
+#[no_mangle]
+pub extern "C" fn opl_ip_lost(memory: &mut [u8]) -> u8
+    ensures { λ r. ⌜ Is (dropping (now (memory .entry))) r (now (memory .exit)) ⌝ }
+{
+    ip_read::lost(memory)
 }
 
 // An infoword of 1,536 or 96 bytes turbo-encoded under a pattern.

@@ -1,0 +1,113 @@
+-- Streams of calls of the exported functions: each call kept its function's own promise, and so all that is claimed of such calls holds.
+-- Assumes nothing.
+use Prim.Native.Nat.{ℕ}
+use mathlib.Core.Path.{_≡_, sym, subst}
+use mathlib.Core.List.{List}
+use contract.Lifetimes.{Lfts}
+use borrow.Fn.World.{ArgsD, ResD}
+use borrow.Fn.Kinds.{endedOf}
+use denote.Ref.{now}
+use denote.Triple.Clauses.{AtExit}
+use Rattle.opl.proofs.opl_ip_write as opl-ip-write
+use Rattle.opl.proofs.opl_ip_write.Kinds as opl-ip-write-kinds
+use Rattle.opl.proofs.opl_ip_write.Reads as opl-ip-write-reads
+use Rattle.opl.proofs.opl_ip_read as opl-ip-read
+use Rattle.opl.proofs.opl_ip_read.Kinds as opl-ip-read-kinds
+use Rattle.opl.proofs.opl_ip_read.Reads as opl-ip-read-reads
+use Rattle.opl.proofs.opl_ip_lost as opl-ip-lost
+use Rattle.opl.proofs.opl_ip_lost.Kinds as opl-ip-lost-kinds
+use Rattle.opl.proofs.opl_ip_lost.Reads as opl-ip-lost-reads
+use Rattle.ip_streams.specs.Calls.{WriteCall, ReadCall, LostCall, Step}
+use Rattle.ip_streams.specs.Streams.{Delivers, ComesBack, Ends, OnlyWhole, RefusedLeaves, OthersPass, NothingToCarry}
+use Rattle.ip_streams.proofs.OneWrite.{Wrote, nothing-to-carry}
+use Rattle.ip_streams.proofs.OneRead.{Did, Dropped, only-whole-come, refused-leaves, others-pass}
+use Rattle.ip_streams.proofs.Kept.{AllWrites, AllSteps, kept-delivers, kept-comes-back, kept-ends}
+
+-- a call opl_ip_write(id, sent, queue, word, progress)
+abbrev writeCall : (κs : Lfts 3) → ArgsD opl-ip-write.signature κs → ResD opl-ip-write.signature κs → AtExit (endedOf 3 opl-ip-write-kinds.ps opl-ip-write-kinds.r) κs → WriteCall
+writeCall κs a r s = record {
+  id = a .0;
+  sent = a .1 .0;
+  queue = now (a .1 .1 .0);
+  word = now (a .1 .1 .1 .0);
+  progress = now (a .1 .1 .1 .1 .0);
+  answer = r;
+  leftWord = now (s .1 .1 .1 .0);
+  leftProgress = now (s .1 .1 .1 .1 .0);
+}
+
+-- a call opl_ip_read(word, memory, packets, header)
+abbrev readCall : (κs : Lfts 4) → ArgsD opl-ip-read.signature κs → ResD opl-ip-read.signature κs → AtExit (endedOf 4 opl-ip-read-kinds.ps opl-ip-read-kinds.r) κs → ReadCall
+readCall κs a r s = record {
+  word = now (a .0);
+  held = now (a .1 .0);
+  packets = now (a .1 .1 .0);
+  header = now (a .1 .1 .1 .0);
+  answer = r;
+  leftHeld = now (s .1 .0);
+  leftPackets = now (s .1 .1 .0);
+  leftHeader = now (s .1 .1 .1 .0);
+}
+
+-- a call opl_ip_lost(memory)
+abbrev lostCall : (κs : Lfts 1) → ArgsD opl-ip-lost.signature κs → ResD opl-ip-lost.signature κs → AtExit (endedOf 1 opl-ip-lost-kinds.ps opl-ip-lost-kinds.r) κs → LostCall
+lostCall κs a r s = record { held = now (a .0); answer = r; leftHeld = now (s .0) }
+
+-- calls that kept the functions' promises
+pub record Writes (c : WriteCall) : Type 1 where
+  pub κs : Lfts 3
+  pub args : ArgsD opl-ip-write.signature κs
+  pub result : ResD opl-ip-write.signature κs
+  pub exit : AtExit (endedOf 3 opl-ip-write-kinds.ps opl-ip-write-kinds.r) κs
+  pub kept : opl-ip-write-reads.Post κs args result exit
+  pub is : c ≡ writeCall κs args result exit
+
+pub record Reading (c : ReadCall) : Type 1 where
+  pub κs : Lfts 4
+  pub args : ArgsD opl-ip-read.signature κs
+  pub result : ResD opl-ip-read.signature κs
+  pub exit : AtExit (endedOf 4 opl-ip-read-kinds.ps opl-ip-read-kinds.r) κs
+  pub kept : opl-ip-read-reads.Post κs args result exit
+  pub is : c ≡ readCall κs args result exit
+
+pub record Losing (c : LostCall) : Type 1 where
+  pub κs : Lfts 1
+  pub args : ArgsD opl-ip-lost.signature κs
+  pub result : ResD opl-ip-lost.signature κs
+  pub exit : AtExit (endedOf 1 opl-ip-lost-kinds.ps opl-ip-lost-kinds.r) κs
+  pub kept : opl-ip-lost-reads.Post κs args result exit
+  pub is : c ≡ lostCall κs args result exit
+
+wrote : (c : WriteCall) → Writes c → Wrote c
+wrote c w = subst Wrote (sym (w .is)) (w .kept)
+
+did : (a : ReadCall) → Reading a → Did a
+did a r = subst Did (sym (r .is)) (r .kept)
+
+dropped : (b : LostCall) → Losing b → Dropped b
+dropped b l = subst Dropped (sym (l .is)) (l .kept)
+
+-- with any words of a written stream lost, what is handed out is exactly the packets all of whose words came
+pub opl-ip-delivered : (js : List (List ℕ)) (cs : List WriteCall) (ss : List Step) → AllWrites Writes Reading Losing cs → AllSteps Writes Reading Losing ss → Delivers js cs ss
+opl-ip-delivered = kept-delivers Writes Reading Losing wrote did dropped
+
+-- with none lost, and nothing that waits any more, all of them
+pub opl-ip-back : (js : List (List ℕ)) (cs : List WriteCall) (ss : List Step) → AllWrites Writes Reading Losing cs → AllSteps Writes Reading Losing ss → ComesBack js cs ss
+opl-ip-back = kept-comes-back Writes Reading Losing wrote did dropped
+
+-- and it ends
+pub opl-ip-ends : (q : List ℕ) (cs : List WriteCall) → AllWrites Writes Reading Losing cs → Ends q cs
+opl-ip-ends = kept-ends Writes Reading Losing wrote did dropped
+
+-- of one call
+pub opl-ip-read-only-whole : (a : ReadCall) → Reading a → OnlyWhole a
+opl-ip-read-only-whole a r = only-whole-come a (did a r)
+
+pub opl-ip-read-refused-leaves : (a : ReadCall) → Reading a → RefusedLeaves a
+opl-ip-read-refused-leaves a r = refused-leaves a (did a r)
+
+pub opl-ip-read-others-pass : (a : ReadCall) → Reading a → OthersPass a
+opl-ip-read-others-pass a r = others-pass a (did a r)
+
+pub opl-ip-write-nothing : (c : WriteCall) → Writes c → NothingToCarry c
+opl-ip-write-nothing c w = nothing-to-carry c (wrote c w)
