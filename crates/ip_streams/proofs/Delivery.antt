@@ -31,7 +31,7 @@ use Rattle.ip_read.specs.Reading.{gotOf}
 use Rattle.ip_write.proofs.Places.{queue-join}
 use Rattle.ip_streams.specs.Calls.{WriteCall, ReadCall, LostCall, Step, reads, loses, passes, doneOf, sentOf, handedBy, Lent, Sends, remains, wordsOf, AllWhole, packetsOf, AllWritten, Hears, AllRead, handed}
 use Rattle.ip_streams.specs.Streams.{fresh, Delivered, Delivers}
-use Rattle.ip_streams.proofs.OneWrite.{Wrote, wrote, word-left, done-is, sent-is, queue-left}
+use Rattle.ip_streams.proofs.OneWrite.{Wrote, whole-held, wrote, word-left, done-is, sent-is, queue-left}
 use Rattle.ip_streams.proofs.OneRead.{Did, Dropped, refused-leaves, others-pass, accepted, dropped}
 
 abbrev pub AllWrote : List WriteCall → Type 0
@@ -57,9 +57,6 @@ announced-fits r =
     ]
 
 -- ---- the packets that join
-
-pub whole-held : (j : List ℕ) → queueIn 0 j .number ≡ 0 → queueIn 0 j ≡ holds (queueIn 0 j .packets)
-whole-held j e = ap (λ (n : ℕ). record { number = n; packets = queueIn 0 j .packets }) e
 
 pub joined-fit : (js : List (List ℕ)) → AllFit (joined (packetsOf js))
 unfolding joined packetsOf

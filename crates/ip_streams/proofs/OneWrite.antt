@@ -7,7 +7,7 @@ use mathlib.Core.List.{List, [], _∷_, _++_}
 use native.Mathlib.Omega.{arith}
 use borrow.Author.Tests.{eq-eqb, ne-eqb, le-ltb}
 use lib.ListN.{length, take, drop, replicate}
-use lib.Seq.{take-at, drop-at}
+use lib.Seq.{take-at, drop-at, take-append-le}
 use Rattle.ground.specs.Outcome.{Is}
 use Rattle.ground.specs.Choice.{choose, firstOf}
 use Rattle.ground.proofs.Choice.{choose-true, skip}
@@ -15,16 +15,19 @@ use Rattle.bits.specs.Lists.{bits, num, unpack, pack}
 use Rattle.bits.proofs.Lists.{bits-length, bits-below, num-bits, unpack-pack, pack-length}
 use Rattle.infoword.specs.Word.{ipWord}
 use Rattle.ip.specs.Packet.{Packet, AllFit}
-use Rattle.ip.specs.Write.{address, wordFill, toCome, fill, InPlace}
+use Rattle.ip.specs.Write.{Filled, address, wordFill, toCome, fill, InPlace}
 use Rattle.ip.specs.Stream.{kept}
 use Rattle.ip.specs.Memory.{queue, Queue, holds, queueIn}
-use Rattle.ip.proofs.Step.{place-after}
-use Rattle.ip.proofs.Stream.{fit-drop}
+use Rattle.ip.proofs.Front.{word-front}
+use Rattle.ip.proofs.Memory.{queue-fit}
+use Rattle.ip.proofs.Step.{place-after, done-most as done-few}
+use Rattle.ip.proofs.Stream.{fit-append, fit-drop, place-append}
 use Rattle.ip_write.specs.Writing.{misplaced, writeFaults, progressOf, written}
-use Rattle.ip_write.proofs.Places.{done-most, queue-drop}
-use Rattle.ip_write.proofs.Refusals.{none-wrong}
+use Rattle.ip_write.proofs.Places.{done-most, queue-join, queue-drop}
+use Rattle.ip_write.proofs.First.{in-place}
+use Rattle.ip_write.proofs.Refusals.{Taken, taken, none-wrong}
 use Rattle.ip_streams.specs.Calls.{WriteCall, doneOf, sentOf}
-use Rattle.ip_streams.specs.Streams.{NothingToCarry}
+use Rattle.ip_streams.specs.Streams.{NothingToCarry, Front}
 
 -- a call that had the outcome that the writer's promise gives
 abbrev pub Wrote : WriteCall → Type 0
@@ -42,6 +45,17 @@ small : (s : ℕ) (q : List Packet) → AllFit q → InPlace s q → s ≤ 4096
 small zero q fit at = omega arith
 small (suc s) [] fit at = absurd at
 small (suc s) (p ∷ q) fit at = omega (arith, at .1, fit .0 .most)
+
+-- whole packets
+pub whole-held : (j : List ℕ) → queueIn 0 j .number ≡ 0 → queueIn 0 j ≡ holds (queueIn 0 j .packets)
+whole-held j e = ap (λ (n : ℕ). record { number = n; packets = queueIn 0 j .packets }) e
+
+-- what is still to come does not depend on what waits behind
+address-append : (s : ℕ) (q x : List Packet) → InPlace s q → address s (q ++ x) ≡ address s q
+unfolding toCome
+address-append zero q x at = refl
+address-append (suc s) [] x at = absurd at
+address-append (suc s) (p ∷ q) x at = refl
 
 -- a number of four bytes
 four-back : (v : ℕ) → v < 4294967296 → num (unpack (pack 4 (bits 32 v))) ≡ v
@@ -118,3 +132,34 @@ nothing-to-carry c did s e l p =
       word-left c did [] held tt at l p ∙ ap (λ (x : ℕ). ipWord (c .id) (address x []) (wordFill x [] .bytes)) s,
       progress-left c did [] held tt at l p ∙ ap (λ (x : ℕ). progressOf x []) s,
     )
+
+-- what a call that answered 0 was lent
+module _ (c : WriteCall) (did : Wrote c) (z : c .answer ≡ 0) where
+  asked : Taken (c .sent) (queueIn 0 (c .queue)) (length (c .word)) (length (c .progress))
+  unfolding written
+  asked = taken (c .sent) (queueIn 0 (c .queue)) (length (c .word)) (length (c .progress)) (sym (did .0 .answer) ∙ z)
+
+  -- the front of a long queue
+  pub front-enough : (d : WriteCall) → Wrote d → Front c d → (d .answer ≡ 0) × (d .leftWord ≡ c .leftWord) × (d .leftProgress ≡ c .leftProgress)
+  unfolding progressOf
+  front-enough d did' f =
+      let q : List Packet = queueIn 0 (c .queue) .packets in
+      let x : List Packet = queueIn 0 (f .more) .packets in
+      let s : ℕ = c .sent in
+      let held : queueIn 0 (c .queue) ≡ holds q = whole-held (c .queue) (asked .whole) in
+      let held' : queueIn 0 (d .queue) ≡ holds (q ++ x) = ap (queueIn 0) (f .queues) ∙ queue-join (c .queue) (f .more) q x held (whole-held (f .more) (f .whole)) in
+      let fit : AllFit q = queue-fit 0 (c .queue) in
+      let fit' : AllFit (q ++ x) = fit-append q x fit (queue-fit 0 (f .more)) in
+      let at : InPlace s q = in-place s q (asked .placed) in
+      let at' : InPlace (d .sent) (q ++ x) = subst (λ (n : ℕ). InPlace n (q ++ x)) (sym (f .sent)) (place-append s q x at) in
+      let w : wordFill s (q ++ x) ≡ wordFill s q = word-front q x s at (f .enough) in
+      let lw : length (d .word) ≡ 1536 = f .word ∙ asked .word-is in
+      let lp : length (d .progress) ≡ 8 = f .progress ∙ asked .progress-is in
+      let k : take (wordFill s q .done) (q ++ x) ≡ take (wordFill s q .done) q = take-append-le (wordFill s q .done) q x (done-few s q fit) in
+      (wrote d did' (q ++ x) held' fit' at' lw lp,
+      word-left d did' (q ++ x) held' fit' at' lw lp ∙ ap₂ (λ (i n : ℕ). ipWord i (address n (q ++ x)) (wordFill n (q ++ x) .bytes)) (f .id) (f .sent)
+      ∙ ap₂ (λ (a : ℕ) (g : Filled). ipWord (c .id) a (g .bytes)) (address-append s q x at) w ∙ sym (word-left c did q held fit at (asked .word-is) (asked .progress-is)),
+      progress-left d did' (q ++ x) held' fit' at' lw lp ∙ ap (λ (n : ℕ). progressOf n (q ++ x)) (f .sent)
+      ∙ ap (λ (g : Filled). pack 4 (bits 32 (length (queue (take (g .done) (q ++ x))))) ++ pack 4 (bits 32 (g .sent))) w
+      ∙ ap (λ (l : List Packet). pack 4 (bits 32 (length (queue l))) ++ pack 4 (bits 32 (wordFill s q .sent))) k
+      ∙ sym (progress-left c did q held fit at (asked .word-is) (asked .progress-is)))

@@ -18,8 +18,8 @@ use Rattle.ip_read.proofs.lost as lost
 use Rattle.ip_read.proofs.lost.Kinds as lost-kinds
 use Rattle.ip_read.proofs.lost.Reads as lost-reads
 use Rattle.ip_streams.specs.Calls.{WriteCall, ReadCall, LostCall, Step}
-use Rattle.ip_streams.specs.Streams.{Delivers, ComesBack, Ends, OnlyWhole, RefusedLeaves, OthersPass, NothingToCarry}
-use Rattle.ip_streams.proofs.OneWrite.{Wrote, nothing-to-carry}
+use Rattle.ip_streams.specs.Streams.{Delivers, ComesBack, Ends, OnlyWhole, RefusedLeaves, OthersPass, NothingToCarry, FrontEnough}
+use Rattle.ip_streams.proofs.OneWrite.{Wrote, nothing-to-carry, front-enough}
 use Rattle.ip_streams.proofs.OneRead.{Did, Dropped, only-whole-come, refused-leaves, others-pass}
 use Rattle.ip_streams.proofs.Kept.{AllWrites, AllSteps, kept-delivers, kept-comes-back, kept-ends}
 
@@ -111,3 +111,6 @@ read-others-pass a r = others-pass a (did a r)
 
 pub write-nothing : (c : WriteCall) → Writes c → NothingToCarry c
 write-nothing c w = nothing-to-carry c (wrote c w)
+
+pub write-front : (c d : WriteCall) → Writes c → Writes d → FrontEnough c d
+write-front c d w v f z = front-enough c (wrote c w) z d (wrote d v) f

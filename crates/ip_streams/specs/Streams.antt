@@ -3,13 +3,13 @@
 use Prim.Native.Nat.{ℕ, suc, _≤_}
 use mathlib.Core.Bool.{Bool, true}
 use mathlib.Core.Path.{_≡_}
-use mathlib.Core.List.{List, [], _∷_}
+use mathlib.Core.List.{List, [], _∷_, _++_}
 use lib.ListN.{length, replicate, take, drop}
 use Rattle.infoword.specs.Suffix.{kindOf}
 use Rattle.infoword.specs.Word.{ipWord}
 use Rattle.ip.specs.Packet.{Packet, AllFit}
 use Rattle.ip.specs.Read.{Open, Sound}
-use Rattle.ip.specs.Stream.{ended, joined, arrived, select}
+use Rattle.ip.specs.Stream.{ended, joined, left, arrived, select}
 use Rattle.ip.specs.Memory.{queue, holds, queueIn, openBytes}
 use Rattle.ip_streams.specs.Calls.{WriteCall, ReadCall, LostCall, Step, handedBy, Sends, remains, wordsOf, AllWhole, packetsOf, AllWritten, Hears, AllRead, handed}
 
@@ -71,3 +71,19 @@ abbrev pub NothingToCarry : WriteCall → Type 0
 NothingToCarry c =
     c .sent ≡ 0 → c .queue ≡ [] → length (c .word) ≡ 1536 → length (c .progress) ≡ 8
     → (c .answer ≡ 0) × (c .leftWord ≡ ipWord (c .id) 0 (replicate 1504 255)) × (c .leftProgress ≡ replicate 8 0)
+
+-- of a long queue the front is enough: c is lent whole packets of which 1,503 bytes are still to be sent, headers counted, and d the same with more
+-- whole packets behind them
+pub record Front (c d : WriteCall) : Type 0 where
+  pub more : List ℕ
+  pub queues : d .queue ≡ c .queue ++ more
+  pub whole : queueIn 0 more .number ≡ 0
+  pub id : d .id ≡ c .id
+  pub sent : d .sent ≡ c .sent
+  pub word : length (d .word) ≡ length (c .word)
+  pub progress : length (d .progress) ≡ length (c .progress)
+  pub enough : 1503 ≤ left (c .sent) (queueIn 0 (c .queue) .packets)
+
+-- where c answered 0, so did d, and it left the same word and the same progress
+abbrev pub FrontEnough : WriteCall → WriteCall → Type 0
+FrontEnough c d = Front c d → c .answer ≡ 0 → (d .answer ≡ 0) × (d .leftWord ≡ c .leftWord) × (d .leftProgress ≡ c .leftProgress)

@@ -18,8 +18,8 @@ use Rattle.opl.proofs.opl_ip_lost as opl-ip-lost
 use Rattle.opl.proofs.opl_ip_lost.Kinds as opl-ip-lost-kinds
 use Rattle.opl.proofs.opl_ip_lost.Reads as opl-ip-lost-reads
 use Rattle.ip_streams.specs.Calls.{WriteCall, ReadCall, LostCall, Step}
-use Rattle.ip_streams.specs.Streams.{Delivers, ComesBack, Ends, OnlyWhole, RefusedLeaves, OthersPass, NothingToCarry}
-use Rattle.ip_streams.proofs.OneWrite.{Wrote, nothing-to-carry}
+use Rattle.ip_streams.specs.Streams.{Delivers, ComesBack, Ends, OnlyWhole, RefusedLeaves, OthersPass, NothingToCarry, FrontEnough}
+use Rattle.ip_streams.proofs.OneWrite.{Wrote, nothing-to-carry, front-enough}
 use Rattle.ip_streams.proofs.OneRead.{Did, Dropped, only-whole-come, refused-leaves, others-pass}
 use Rattle.ip_streams.proofs.Kept.{AllWrites, AllSteps, kept-delivers, kept-comes-back, kept-ends}
 
@@ -111,3 +111,6 @@ opl-ip-read-others-pass a r = others-pass a (did a r)
 
 pub opl-ip-write-nothing : (c : WriteCall) → Writes c → NothingToCarry c
 opl-ip-write-nothing c w = nothing-to-carry c (wrote c w)
+
+pub opl-ip-write-front : (c d : WriteCall) → Writes c → Writes d → FrontEnough c d
+opl-ip-write-front c d w v f z = front-enough c (wrote c w) z d (wrote d v) f
