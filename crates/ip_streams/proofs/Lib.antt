@@ -2,5 +2,6 @@ pub mod OneRead
 pub mod OneWrite
 pub mod Delivery
 pub mod Returns
+pub mod Words
 pub mod Kept
 pub mod Promised

@@ -51,7 +51,7 @@ module _ (a : ReadCall) (did : Did a) where
   abbrev got : Got
   got = gotOf (a .word) (a .held)
 
-  abbrev refused : ℕ
+  abbrev pub refused : ℕ
   refused = firstOf (ipFaults (a .word) (a .held) (length (a .packets)) (length (a .header)))
 
   abbrev before : List ℕ × List ℕ × List ℕ
@@ -66,7 +66,7 @@ module _ (a : ReadCall) (did : Did a) where
   abbrev after : List ℕ × List ℕ × List ℕ
   after = (a .leftHeld, a .leftPackets, a .leftHeader)
 
-  answer-is : a .answer ≡ refused
+  pub answer-is : a .answer ≡ refused
   unfolding readInto
   answer-is = did .answer
 

@@ -139,6 +139,14 @@ module _ (c : WriteCall) (did : Wrote c) (z : c .answer ≡ 0) where
   unfolding written
   asked = taken (c .sent) (queueIn 0 (c .queue)) (length (c .word)) (length (c .progress)) (sym (did .0 .answer) ∙ z)
 
+  abbrev waits : List Packet
+  waits = queueIn 0 (c .queue) .packets
+
+  -- the word that it left
+  pub word-then : c .leftWord ≡ ipWord (c .id) (address (c .sent) waits) (wordFill (c .sent) waits .bytes)
+  word-then =
+      word-left c did waits (whole-held (c .queue) (asked .whole)) (queue-fit 0 (c .queue)) (in-place (c .sent) waits (asked .placed)) (asked .word-is) (asked .progress-is)
+
   -- the front of a long queue
   pub front-enough : (d : WriteCall) → Wrote d → Front c d → (d .answer ≡ 0) × (d .leftWord ≡ c .leftWord) × (d .leftProgress ≡ c .leftProgress)
   unfolding progressOf
@@ -155,11 +163,12 @@ module _ (c : WriteCall) (did : Wrote c) (z : c .answer ≡ 0) where
       let w : wordFill s (q ++ x) ≡ wordFill s q = word-front q x s at (f .enough) in
       let lw : length (d .word) ≡ 1536 = f .word ∙ asked .word-is in
       let lp : length (d .progress) ≡ 8 = f .progress ∙ asked .progress-is in
-      let k : take (wordFill s q .done) (q ++ x) ≡ take (wordFill s q .done) q = take-append-le (wordFill s q .done) q x (done-few s q fit) in
-      (wrote d did' (q ++ x) held' fit' at' lw lp,
-      word-left d did' (q ++ x) held' fit' at' lw lp ∙ ap₂ (λ (i n : ℕ). ipWord i (address n (q ++ x)) (wordFill n (q ++ x) .bytes)) (f .id) (f .sent)
-      ∙ ap₂ (λ (a : ℕ) (g : Filled). ipWord (c .id) a (g .bytes)) (address-append s q x at) w ∙ sym (word-left c did q held fit at (asked .word-is) (asked .progress-is)),
-      progress-left d did' (q ++ x) held' fit' at' lw lp ∙ ap (λ (n : ℕ). progressOf n (q ++ x)) (f .sent)
-      ∙ ap (λ (g : Filled). pack 4 (bits 32 (length (queue (take (g .done) (q ++ x))))) ++ pack 4 (bits 32 (g .sent))) w
-      ∙ ap (λ (l : List Packet). pack 4 (bits 32 (length (queue l))) ++ pack 4 (bits 32 (wordFill s q .sent))) k
-      ∙ sym (progress-left c did q held fit at (asked .word-is) (asked .progress-is)))
+      let k : take (wordFill s q .done) (q ++ x) ≡ take (wordFill s q .done) q = take-append-le (wordFill s q .done) q x (done-few s q fit) in (
+        wrote d did' (q ++ x) held' fit' at' lw lp,
+        word-left d did' (q ++ x) held' fit' at' lw lp ∙ ap₂ (λ (i n : ℕ). ipWord i (address n (q ++ x)) (wordFill n (q ++ x) .bytes)) (f .id) (f .sent)
+            ∙ ap₂ (λ (a : ℕ) (g : Filled). ipWord (c .id) a (g .bytes)) (address-append s q x at) w ∙ sym (word-left c did q held fit at (asked .word-is) (asked .progress-is)),
+        progress-left d did' (q ++ x) held' fit' at' lw lp ∙ ap (λ (n : ℕ). progressOf n (q ++ x)) (f .sent)
+            ∙ ap (λ (g : Filled). pack 4 (bits 32 (length (queue (take (g .done) (q ++ x))))) ++ pack 4 (bits 32 (g .sent))) w
+            ∙ ap (λ (l : List Packet). pack 4 (bits 32 (length (queue l))) ++ pack 4 (bits 32 (wordFill s q .sent))) k
+            ∙ sym (progress-left c did q held fit at (asked .word-is) (asked .progress-is)),
+      )

@@ -18,9 +18,10 @@ use Rattle.ip_read.proofs.lost as lost
 use Rattle.ip_read.proofs.lost.Kinds as lost-kinds
 use Rattle.ip_read.proofs.lost.Reads as lost-reads
 use Rattle.ip_streams.specs.Calls.{WriteCall, ReadCall, LostCall, Step}
-use Rattle.ip_streams.specs.Streams.{Delivers, ComesBack, Ends, OnlyWhole, RefusedLeaves, OthersPass, NothingToCarry, FrontEnough}
+use Rattle.ip_streams.specs.Streams.{Delivers, ComesBack, Ends, OnlyWhole, RefusedLeaves, OthersPass, NothingToCarry, FrontEnough, DamageRefused}
 use Rattle.ip_streams.proofs.OneWrite.{Wrote, nothing-to-carry, front-enough}
 use Rattle.ip_streams.proofs.OneRead.{Did, Dropped, only-whole-come, refused-leaves, others-pass}
+use Rattle.ip_streams.proofs.Words.{damage-refused}
 use Rattle.ip_streams.proofs.Kept.{AllWrites, AllSteps, kept-delivers, kept-comes-back, kept-ends}
 
 -- a call ip_write::write(id, sent, queue, word, progress)
@@ -114,3 +115,7 @@ write-nothing c w = nothing-to-carry c (wrote c w)
 
 pub write-front : (c d : WriteCall) → Writes c → Writes d → FrontEnough c d
 write-front c d w v f z = front-enough c (wrote c w) z d (wrote d v) f
+
+-- of a word that was written, one bit of its header is another
+pub written-damage-refused : (c : WriteCall) (a : ReadCall) → Writes c → Reading a → DamageRefused c a
+written-damage-refused c a w r = damage-refused c a (wrote c w) (did a r)

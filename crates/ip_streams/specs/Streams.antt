@@ -7,7 +7,10 @@ use mathlib.Core.List.{List, [], _∷_, _++_}
 use lib.ListN.{length, replicate, take, drop}
 use Rattle.infoword.specs.Suffix.{kindOf}
 use Rattle.infoword.specs.Word.{ipWord}
+use Rattle.fields.specs.declared.Header.{Header}
+use Rattle.payload.specs.Damage.{OneBit}
 use Rattle.ip.specs.Packet.{Packet, AllFit}
+use Rattle.ip.specs.Write.{address}
 use Rattle.ip.specs.Read.{Open, Sound}
 use Rattle.ip.specs.Stream.{ended, joined, left, arrived, select}
 use Rattle.ip.specs.Memory.{queue, holds, queueIn, openBytes}
@@ -87,3 +90,13 @@ pub record Front (c d : WriteCall) : Type 0 where
 -- where c answered 0, so did d, and it left the same word and the same progress
 abbrev pub FrontEnough : WriteCall → WriteCall → Type 0
 FrontEnough c d = Front c d → c .answer ≡ 0 → (d .answer ≡ 0) × (d .leftWord ≡ c .leftWord) × (d .leftProgress ≡ c .leftProgress)
+
+-- what is reported of a word that was written: RFU 0, the stream id, type 3, Encap_Ver 0, all four parts hold, and the address
+abbrev pub ipHeader : WriteCall → Header
+ipHeader c = record { rfu = 0; id = c .id; kind = 3; version = 0; parity = 15; address = address (c .sent) (queueIn 0 (c .queue) .packets) }
+
+-- such a word with one other bit of those that its CRC covers, be it of the stream type, is refused with 5, and nothing is touched
+abbrev pub DamageRefused : WriteCall → ReadCall → Type 0
+DamageRefused c a =
+    (i : ℕ) → OneBit (c .leftWord) (a .word) i → c .answer ≡ 0 → length (a .held) ≡ 4104 → 6604 ≤ length (a .packets) → length (a .header) ≡ 16
+    → (a .answer ≡ 5) × Untouched a

@@ -1,13 +1,24 @@
 -- Streams of calls of the exported functions: each call kept its function's own promise, and so all that is claimed of such calls holds.
 -- Assumes nothing.
 use Prim.Native.Nat.{ℕ}
-use mathlib.Core.Path.{_≡_, sym, subst}
+use mathlib.Core.Path.{_≡_, sym, ap, _∙_, subst}
 use mathlib.Core.List.{List}
+use native.Mathlib.Omega.{arith}
 use contract.Lifetimes.{Lfts}
 use borrow.Fn.World.{ArgsD, ResD}
 use borrow.Fn.Kinds.{endedOf}
 use denote.Ref.{now}
 use denote.Triple.Clauses.{AtExit}
+use lib.ListN.{length}
+use Rattle.ground.proofs.Outcome.{agree}
+use Rattle.fields.specs.Report.{headerOf}
+use Rattle.fields.proofs.Faults.{Readable, read-0}
+use Rattle.payload.specs.Answers.{headerBytes}
+use Rattle.payload.specs.Damage.{OneBit}
+use Rattle.payload.proofs.Answers.{into-refused, into-done}
+use Rattle.opl.proofs.opl_payload_read as opl-payload-read
+use Rattle.opl.proofs.opl_payload_read.Kinds as opl-payload-read-kinds
+use Rattle.opl.proofs.opl_payload_read.Reads as opl-payload-read-reads
 use Rattle.opl.proofs.opl_ip_write as opl-ip-write
 use Rattle.opl.proofs.opl_ip_write.Kinds as opl-ip-write-kinds
 use Rattle.opl.proofs.opl_ip_write.Reads as opl-ip-write-reads
@@ -18,9 +29,10 @@ use Rattle.opl.proofs.opl_ip_lost as opl-ip-lost
 use Rattle.opl.proofs.opl_ip_lost.Kinds as opl-ip-lost-kinds
 use Rattle.opl.proofs.opl_ip_lost.Reads as opl-ip-lost-reads
 use Rattle.ip_streams.specs.Calls.{WriteCall, ReadCall, LostCall, Step}
-use Rattle.ip_streams.specs.Streams.{Delivers, ComesBack, Ends, OnlyWhole, RefusedLeaves, OthersPass, NothingToCarry, FrontEnough}
+use Rattle.ip_streams.specs.Streams.{Delivers, ComesBack, Ends, OnlyWhole, RefusedLeaves, OthersPass, NothingToCarry, FrontEnough, ipHeader, DamageRefused}
 use Rattle.ip_streams.proofs.OneWrite.{Wrote, nothing-to-carry, front-enough}
 use Rattle.ip_streams.proofs.OneRead.{Did, Dropped, only-whole-come, refused-leaves, others-pass}
+use Rattle.ip_streams.proofs.Words.{written-readable, written-header, written-damaged, damage-refused}
 use Rattle.ip_streams.proofs.Kept.{AllWrites, AllSteps, kept-delivers, kept-comes-back, kept-ends}
 
 -- a call opl_ip_write(id, sent, queue, word, progress)
@@ -114,3 +126,23 @@ opl-ip-write-nothing c w = nothing-to-carry c (wrote c w)
 
 pub opl-ip-write-front : (c d : WriteCall) → Writes c → Writes d → FrontEnough c d
 opl-ip-write-front c d w v f z = front-enough c (wrote c w) z d (wrote d v) f
+
+-- of a word that was written, one bit of its header is another
+pub opl-ip-damage-refused : (c : WriteCall) (a : ReadCall) → Writes c → Reading a → DamageRefused c a
+opl-ip-damage-refused c a w r = damage-refused c a (wrote c w) (did a r)
+
+-- after a call opl_ip_write that answered 0
+module _ (c : WriteCall) (w : Writes c) (z : c .answer ≡ 0) where
+  -- opl_payload_read(word, header) with 16 bytes answers 0 and leaves RFU 0, the stream id, type 3, Encap_Ver 0, that all four parts hold, and the address
+  pub opl-ip-header-read : (κs : Lfts 2) (b : ArgsD opl-payload-read.signature κs) (n : ResD opl-payload-read.signature κs)
+      (t : AtExit (endedOf 2 opl-payload-read-kinds.ps opl-payload-read-kinds.r) κs)
+      → now (b .0) ≡ c .leftWord → length (now (b .1 .0)) ≡ 16 → opl-payload-read-reads.Post κs b n t → (n ≡ 0) × (now (t .1 .0) ≡ headerBytes (ipHeader c))
+  opl-ip-header-read κs b n t e l p =
+      agree p (into-done (now (b .0)) (now (b .1 .0)) l (read-0 (now (b .0)) (subst Readable (sym e) (written-readable c (wrote c w) z))) (headerBytes (ipHeader c))
+      (ap headerBytes (sym (ap headerOf e ∙ written-header c (wrote c w) z))))
+
+  -- and of a word with one other bit of its header, be it of the stream type, it answers 5, and nothing is touched
+  pub opl-ip-header-damaged : (κs : Lfts 2) (b : ArgsD opl-payload-read.signature κs) (n : ResD opl-payload-read.signature κs)
+      (t : AtExit (endedOf 2 opl-payload-read-kinds.ps opl-payload-read-kinds.r) κs) (i : ℕ)
+      → OneBit (c .leftWord) (now (b .0)) i → length (now (b .1 .0)) ≡ 16 → opl-payload-read-reads.Post κs b n t → (n ≡ 5) × (now (t .1 .0) ≡ now (b .1 .0))
+  opl-ip-header-damaged κs b n t i d l p = agree p (into-refused (now (b .0)) (now (b .1 .0)) l 5 (written-damaged c (wrote c w) z (now (b .0)) i d) (omega arith))

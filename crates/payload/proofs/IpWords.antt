@@ -46,9 +46,9 @@ module _ (id address : ℕ) (p : List ℕ) (i : id < 256) (a : address < 4096) (
   small = subst (λ (r : ℕ). address < 2 ^ r) (sym (lead-long 3 refl)) (omega arith)
 
   -- the 32 bits before STS_ID
-  before : fieldAt word 12228 32 ≡ address
+  pub ip-before : fieldAt word 12228 32 ≡ address
   unfolding leadOf
-  before =
+  ip-before =
       law (λ (w : List ℕ). fieldAt w 12228 32 ≡ address)
       (let w : List ℕ = wordWith 3 id (bits (leadBits 3) address) p in
       let k : kindOf w ≡ 3 = kind-back 3 id address p (omega arith) (omega arith) in
@@ -63,10 +63,10 @@ module _ (id address : ℕ) (p : List ℕ) (i : id < 256) (a : address < 4096) (
   address-low = field-lt word 12248 12 (omega arith)
 
   pub ip-address : addressOf word ≡ address
-  ip-address = omega (arith, parts, before, address-low, a)
+  ip-address = omega (arith, parts, ip-before, address-low, a)
 
   pub ip-rfu : rfuOf word ≡ 0
-  ip-rfu = rfu-of-3 word ip-kind ∙ omega (arith, parts, before, address-low, a)
+  ip-rfu = rfu-of-3 word ip-kind ∙ omega (arith, parts, ip-before, address-low, a)
 
   -- it is accepted where its address is one that may stand there
   pub ip-readable : noHeaderAt address ≡ false → Readable word

@@ -5,6 +5,7 @@ pub mod Damage
 pub mod Registers
 pub mod IpWords
 pub mod Types
+pub mod IpDamage
 pub mod InBytes
 pub mod Promised
 pub mod Agree

@@ -60,8 +60,8 @@ types-apart id kind h near other e =
     let y : (k : ℕ) → kind ≡ k → x ≡ behind (before 0x6A id) k =
     λ k q.
     let z : 255 - x ≡ 255 - behind (before 0x6A id) k =
-    sym (register 32 id 2 ∙ ap (λ (r : ℕ). 255 - behind (before r id) 2) of-46) ∙ e ∙ ap (λ (j : ℕ). headerCrc (header (bits 4 0) id j 0)) q
-    ∙ register 4 id k ∙ ap (λ (r : ℕ). 255 - behind (before r id) k) of-18 in
+    sym (register 32 0 id 2 ∙ ap (λ (r : ℕ). 255 - behind (before r id) 2) of-46) ∙ e ∙ ap (λ (j : ℕ). headerCrc (header (bits 4 0) id j 0)) q
+    ∙ register 4 0 id k ∙ ap (λ (r : ℕ). 255 - behind (before r id) k) of-18 in
     omega (arith, z, behind-lt 0xED id 2 (omega arith), behind-lt 0x6A id k (omega arith)) in
     let p : ℕ = behind (before 0x6A id) 0 in
     let r : ℕ = behind (before 0x6A id) 6 in
@@ -75,14 +75,14 @@ types-apart id kind h near other e =
     never a b t e = subst (λ (z : Bool). T (not z)) (eq-eqb a b e) t
 
 -- the stream type by its bits
-kind-bits : (w : List ℕ) → kindOf w ≡ (bitAt w 12268 * 2 + bitAt w 12269) * 2 + bitAt w 12270
+pub kind-bits : (w : List ℕ) → kindOf w ≡ (bitAt w 12268 * 2 + bitAt w 12269) * 2 + bitAt w 12270
 unfolding number
 kind-bits w =
     let n : number (bitAt w) 12268 3 ≡ ((0 * 2 + bitAt w 12268) * 2 + bitAt w 12269) * 2 + bitAt w 12270 = refl in
     field-is w 12268 3 (omega arith) ∙ n ∙ omega arith
 
 -- the stream types of two words differ in one bit
-data OneOff (x y : List ℕ) : Type 0 where
+pub data OneOff (x y : List ℕ) : Type 0 where
   in-first : (bitAt x 12268 ≡ bitAt y 12268 → ⊥) → bitAt x 12269 ≡ bitAt y 12269 → bitAt x 12270 ≡ bitAt y 12270 → OneOff x y
   in-second : bitAt x 12268 ≡ bitAt y 12268 → (bitAt x 12269 ≡ bitAt y 12269 → ⊥) → bitAt x 12270 ≡ bitAt y 12270 → OneOff x y
   in-third : bitAt x 12268 ≡ bitAt y 12268 → bitAt x 12269 ≡ bitAt y 12269 → (bitAt x 12270 ≡ bitAt y 12270 → ⊥) → OneOff x y
@@ -127,10 +127,8 @@ not-0-and-3 x y o three none =
     two : (a b c a' b' c' : ℕ) → a < 2 → b < 2 → c < 2 → (a * 2 + b) * 2 + c ≡ 3 → (a' * 2 + b') * 2 + c' ≡ 0 → b ≡ b' → ⊥
     two a b c a' b' c' h i j t u e = let z : a ≡ 0 = omega arith in omega arith
 
--- two words that differ in one covered bit, of which the first is of type 0, 1 or 2, and has zeros from bit 12,228 to STS_ID, unless it is
--- of type 1. Of type 1 what stands there is payload, and with type 3 the CRC covers it: that the change is none from 1 to 3 is asked for
-module _ (w v : List ℕ) (i : ℕ) (d : OneBit w v i) (a : Readable w) (of : kindOf w ≤ 2) (zero : (kindOf w ≡ 1 → ⊥) → fieldAt w 12228 32 ≡ 0)
-    (not-to-3 : kindOf w ≡ 1 → kindOf v ≡ 3 → ⊥) where
+-- two words that differ in one covered bit
+module _ (w v : List ℕ) (i : ℕ) (d : OneBit w v i) (a : Readable w) where
   place : ℕ
   place = 12274 - covered (kindOf w) + i
 
@@ -164,15 +162,15 @@ module _ (w v : List ℕ) (i : ℕ) (d : OneBit w v i) (a : Readable w) (of : ki
         ]
 
     -- all else is the same
-    before-it : (at n : ℕ) → n ≤ 32 → at + n ≤ 12268 → fieldAt v at n ≡ fieldAt w at n
+    pub before-it : (at n : ℕ) → n ≤ 32 → at + n ≤ 12268 → fieldAt v at n ≡ fieldAt w at n
     before-it at n h l =
         field-is v at n h ∙ number-cong (bitAt v) (bitAt w) at n (λ k p. same-at (at + k) (λ e. omega (arith, low, e, p, l))) ∙ sym (field-is w at n h)
 
-    behind-it : (at n : ℕ) → n ≤ 32 → 12271 ≤ at → fieldAt v at n ≡ fieldAt w at n
+    pub behind-it : (at n : ℕ) → n ≤ 32 → 12271 ≤ at → fieldAt v at n ≡ fieldAt w at n
     behind-it at n h l = same-field w v 12271 (λ k m. same-at k (λ e. omega (arith, high, e, m))) at n h l
 
     -- so that the types are one bit off
-    one-off : OneOff v w
+    pub one-off : OneOff v w
     one-off =
         elim (ℕ-discrete place 12268) [
           | yes e ↦ in-first (other-at 12268 e) (same-at 12269 (λ t. omega (arith, e, t))) (same-at 12270 (λ t. omega (arith, e, t)))
@@ -184,18 +182,23 @@ module _ (w v : List ℕ) (i : ℕ) (d : OneBit w v i) (a : Readable w) (of : ki
           ]
         ]
 
-    id-same : idOf v ≡ idOf w
+    pub id-same : idOf v ≡ idOf w
     id-same = before-it 12260 8 (omega arith) (omega arith)
 
-    version-v : versionOf v ≡ 0
+    pub version-v : versionOf v ≡ 0
     version-v = behind-it 12271 3 (omega arith) (omega arith) ∙ a .version-is
 
-    crc-v : crcFieldOf v ≡ headerCrc (coveredOf w)
+    pub crc-v : crcFieldOf v ≡ headerCrc (coveredOf w)
     crc-v = behind-it 12274 8 (omega arith) (omega arith) ∙ a .crc-is
 
-    id-lt : idOf w < 256
+    pub id-lt : idOf w < 256
     id-lt = field-lt w 12260 8 (omega arith)
 
+-- two words that differ in one covered bit, of which the first is of type 0, 1 or 2, and has zeros from bit 12,228 to STS_ID, unless it is
+-- of type 1. Of type 1 what stands there is payload, and with type 3 the CRC covers it: that the change is none from 1 to 3 is asked for
+module _ (w v : List ℕ) (i : ℕ) (d : OneBit w v i) (a : Readable w) (of : kindOf w ≤ 2) (zero : (kindOf w ≡ 1 → ⊥) → fieldAt w 12228 32 ≡ 0)
+    (not-to-3 : kindOf w ≡ 1 → kindOf v ≡ 3 → ⊥) where
+  module _ (span : covered (kindOf v) ≡ covered (kindOf w) → ⊥) where
     -- out of type 2
     left-2 : kindOf w ≡ 2 → crcFieldOf v ≡ headerCrc (coveredOf v) → ⊥
     left-2 two e =
@@ -205,31 +208,31 @@ module _ (w v : List ℕ) (i : ℕ) (d : OneBit w v i) (a : Readable w) (of : ki
         let not-3 : kindOf v ≡ 3 → ⊥ = λ t. span (covered-long (kindOf v) (has-3 (kindOf v) t) ∙ sym (covered-long (kindOf w) long)) in
         let short : hasParity (kindOf v) ≡ false = has-not (kindOf v) not-2 not-3 in
         let x : coveredOf w ≡ header (bits 32 0) (idOf w) 2 0 =
-        covered-of w 32 (a .word-is) (lead-long (kindOf w) long) z (a .version-is) ∙ ap (λ (k : ℕ). header (bits 32 0) (idOf w) k 0) two in
+        covered-of w 32 0 (a .word-is) (lead-long (kindOf w) long) z (a .version-is) ∙ ap (λ (k : ℕ). header (bits 32 0) (idOf w) k 0) two in
         let y : coveredOf v ≡ header (bits 4 0) (idOf w) (kindOf v) 0 =
-        covered-of v 4 (d .long) (lead-short (kindOf v) short) (before-it 12256 4 (omega arith) (omega arith) ∙ last-four w z) version-v
-        ∙ ap (λ (k : ℕ). header (bits 4 0) k (kindOf v) 0) id-same in
-        types-apart (idOf w) (kindOf v) id-lt (near-2 v w one-off two) not-3 (ap headerCrc (sym x) ∙ sym crc-v ∙ e ∙ ap headerCrc y)
+        covered-of v 4 0 (d .long) (lead-short (kindOf v) short) (before-it w v i d a span 12256 4 (omega arith) (omega arith) ∙ last-four w z) (version-v w v i d a span)
+        ∙ ap (λ (k : ℕ). header (bits 4 0) k (kindOf v) 0) (id-same w v i d a span) in
+        types-apart (idOf w) (kindOf v) (id-lt w v i d a span) (near-2 v w (one-off w v i d a span) two) not-3 (ap headerCrc (sym x) ∙ sym (crc-v w v i d a span) ∙ e ∙ ap headerCrc y)
 
     -- and into it
     into-2 : (kindOf w ≡ 2 → ⊥) → crcFieldOf v ≡ headerCrc (coveredOf v) → ⊥
     into-2 not-2 e =
         let short : hasParity (kindOf w) ≡ false = has-not (kindOf w) not-2 (λ t. omega (arith, of, t)) in
         let not-3 : kindOf v ≡ 3 → ⊥ =
-        λ t. not-0-and-3 v w one-off t (dummy-of (kindOf w) of not-2 (λ one. not-to-3 one t)) in
+        λ t. not-0-and-3 v w (one-off w v i d a span) t (dummy-of (kindOf w) of not-2 (λ one. not-to-3 one t)) in
         let two : kindOf v ≡ 2 =
         elim (ℕ-discrete (kindOf v) 2) [
           | yes t ↦ t
           | no t ↦ absurd (span (covered-short (kindOf v) (has-not (kindOf v) t not-3) ∙ sym (covered-short (kindOf w) short)))
         ] in
-        let dummy : kindOf w ≡ 0 = first (kindOf w) (near-2 w v (one-off-back v w one-off) two) of in
+        let dummy : kindOf w ≡ 0 = first (kindOf w) (near-2 w v (one-off-back v w (one-off w v i d a span)) two) of in
         let z : fieldAt w 12228 32 ≡ 0 = zero (λ t. omega (arith, t, dummy)) in
         let x : coveredOf w ≡ header (bits 4 0) (idOf w) 0 0 =
-        covered-of w 4 (a .word-is) (lead-short (kindOf w) short) (last-four w z) (a .version-is) ∙ ap (λ (k : ℕ). header (bits 4 0) (idOf w) k 0) dummy in
+        covered-of w 4 0 (a .word-is) (lead-short (kindOf w) short) (last-four w z) (a .version-is) ∙ ap (λ (k : ℕ). header (bits 4 0) (idOf w) k 0) dummy in
         let y : coveredOf v ≡ header (bits 32 0) (idOf w) 2 0 =
-        covered-of v 32 (d .long) (lead-long (kindOf v) (has-2 (kindOf v) two)) (before-it 12228 32 (omega arith) (omega arith) ∙ z) version-v
-        ∙ ap₂ (λ (j k : ℕ). header (bits 32 0) j k 0) id-same two in
-        types-apart (idOf w) 0 id-lt (to-0 refl) (λ t. omega (arith, t)) (sym (ap headerCrc (sym x) ∙ sym crc-v ∙ e ∙ ap headerCrc y))
+        covered-of v 32 0 (d .long) (lead-long (kindOf v) (has-2 (kindOf v) two)) (before-it w v i d a span 12228 32 (omega arith) (omega arith) ∙ z) (version-v w v i d a span)
+        ∙ ap₂ (λ (j k : ℕ). header (bits 32 0) j k 0) (id-same w v i d a span) two in
+        types-apart (idOf w) 0 (id-lt w v i d a span) (to-0 refl) (λ t. omega (arith, t)) (sym (ap headerCrc (sym x) ∙ sym (crc-v w v i d a span) ∙ e ∙ ap headerCrc y))
       where
         first : (k : ℕ) → Near k → k ≤ 2 → k ≡ 0
         first k (to-0 e) h = e
@@ -241,7 +244,7 @@ module _ (w v : List ℕ) (i : ℕ) (d : OneBit w v i) (a : Readable w) (of : ki
 
     type-damaged : 5 ≡ readRefusal v
     type-damaged =
-        read-5 v (d .long) (behind-it 12282 6 (omega arith) (omega arith) ∙ a .spare-is)
+        read-5 v (d .long) (behind-it w v i d a span 12282 6 (omega arith) (omega arith) ∙ a .spare-is)
         (λ e.
         elim (ℕ-discrete (kindOf w) 2) [
           | yes t ↦ left-2 t e

@@ -20,11 +20,9 @@ use Rattle.ground.proofs.Table.{at-all}
 use Rattle.bits.specs.Lists.{bits}
 use Rattle.bits.specs.Places.{fieldAt}
 use Rattle.bits.specs.Sums.{summed}
-use Rattle.bits.proofs.Lists.{bits-length}
-use Rattle.bits.proofs.Sums.{xor-assoc, xor-between, xor-ones, bits-xor}
+use Rattle.bits.proofs.Sums.{xor-assoc, xor-between, xor-ones}
 use Rattle.bits.proofs.Summed.{summed-length, field-summed}
 use Rattle.crc.specs.Crc.{clock, clocks}
-use Rattle.crc.proofs.Linear.{clocks-sum}
 use Rattle.infoword.specs.Suffix.{idOf, kindOf, versionOf, crcFieldOf, hasParity, leadBits, rfuOf, coveredOf, headerCrc}
 use Rattle.infoword.proofs.Ending.{lead-long, lead-short, leadOf, lead-rfu}
 use Rattle.infoword.proofs.Closing.{has-2, has-not, by-parity}
@@ -32,7 +30,7 @@ use Rattle.infoword.proofs.Again.{last-lead}
 use Rattle.encapsulation.specs.Writing.{written}
 use Rattle.fields.specs.Report.{readRefusal}
 use Rattle.fields.proofs.Faults.{Readable, read-5}
-use Rattle.payload.proofs.Registers.{before, behind, register, of-46, of-18, behind-lt, covered-of}
+use Rattle.payload.proofs.Registers.{before, behind, register, of-46, of-18, behind-lt, covered-of, header-sum}
 use Rattle.payload.proofs.Types.{written-sound}
 
 -- ---- the register by stream type, where RFU is zero: before STS_ID, and after Encap_Ver 0
@@ -59,22 +57,10 @@ crc-is x n z v =
     from : (r : ℕ) → leadBits (kindOf x) ≡ r → clocks 128 0x2F 255 (bits r 0) ≡ choose (hasParity (kindOf x)) 0xED 0x6A
         → headerCrc (coveredOf x) ≡ 255 - behind (before (choose (hasParity (kindOf x)) 0xED 0x6A) (idOf x)) (kindOf x)
     from r e f =
-        ap headerCrc (covered-of x r n e (ap (λ (a : ℕ). fieldAt x (12260 - a) a) (sym e) ∙ z) v) ∙ register r (idOf x) (kindOf x)
+        ap headerCrc (covered-of x r 0 n e (ap (λ (a : ℕ). fieldAt x (12260 - a) a) (sym e) ∙ z) v) ∙ register r 0 (idOf x) (kindOf x)
         ∙ ap (λ (s : ℕ). 255 - behind (before s (idOf x)) (kindOf x)) f
 
 -- ---- sums of registers
-
-run-sum : (n r s a b : ℕ) → clocks 128 0x2F (bitXor r s) (bits n (bitXor a b)) ≡ bitXor (clocks 128 0x2F r (bits n a)) (clocks 128 0x2F s (bits n b))
-run-sum n r s a b =
-    ap (clocks 128 0x2F (bitXor r s)) (bits-xor n a b)
-    ∙ clocks-sum 8 0x2F (omega arith) r s (bits n a) (bits n b) (bits-length n a ∙ sym (bits-length n b))
-
-header-sum : (r s i j k l : ℕ) → behind (before (bitXor r s) (bitXor i j)) (bitXor k l) ≡ bitXor (behind (before r i) k) (behind (before s j) l)
-unfolding before behind
-header-sum r s i j k l =
-    ap (λ (x : ℕ). clocks 128 0x2F (clocks 128 0x2F x (bits 3 (bitXor k l))) (bits 3 0)) (run-sum 8 r s i j)
-    ∙ ap (λ (x : ℕ). clocks 128 0x2F x (bits 3 0)) (run-sum 3 (clocks 128 0x2F r (bits 8 i)) (clocks 128 0x2F s (bits 8 j)) k l)
-    ∙ run-sum 3 (clocks 128 0x2F (clocks 128 0x2F r (bits 8 i)) (bits 3 k)) (clocks 128 0x2F (clocks 128 0x2F s (bits 8 j)) (bits 3 l)) 0 0
 
 -- what two registers and that of the sum differ by; it depends on the types alone
 seed : ℕ → ℕ → ℕ
