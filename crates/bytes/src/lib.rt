@@ -1,5 +1,6 @@
-// Runs of bytes in lent memory: a copy to a place, and one byte from a place on.
+// Bytes in lent memory: a copy of a run to a place, and one byte from a place on; and the number in two bytes.
 ghost use mathlib.Core.Path.{_≡_};
+ghost use Prim.Native.Nat.{_+_, _*_, _<_};
 ghost use Rattle.bytes.specs.Runs.{copied, filledFrom};
 
 // The bytes of a run to a place of out; where they do not fit there, nothing is touched.
@@ -28,4 +29,11 @@ pub fn fill(out: &mut [u8], at: usize, byte: u8)
         out[i] = byte;
         i += 1;
     }
+}
+
+// The number in two bytes, the higher one first. That both are bytes is stated too: it bounds the number where one is read of memory.
+pub fn two(high: u8, low: u8) -> usize
+    ensures { λ r. ⌜ (r ≡ high * 256 + low) × (high < 256) × (low < 256) ⌝ }
+{
+    high as usize * 256 + low as usize
 }
