@@ -27,7 +27,7 @@ use Rattle.ip.proofs.Any.{only-whole, room-enough}
 use Rattle.ip.proofs.Memory.{queue-back, open-meant, open-length}
 use Rattle.ip_read.specs.Reading.{dropping, gotOf, ipFaults, handedTo, readInto}
 use Rattle.ip_read.proofs.Faults.{Taken, takes, taken}
-use Rattle.ip_write.proofs.Places.{queue-room}
+use Rattle.ip_queue.proofs.Places.{queue-room}
 use Rattle.ip_streams.specs.Calls.{ReadCall, LostCall, handedBy, Lent}
 use Rattle.ip_streams.specs.Streams.{Whole, OnlyWhole, Untouched, RefusedLeaves, OthersPass}
 

@@ -22,9 +22,10 @@ use Rattle.ip.proofs.Front.{word-front}
 use Rattle.ip.proofs.Memory.{queue-fit}
 use Rattle.ip.proofs.Step.{place-after, done-most as done-few}
 use Rattle.ip.proofs.Stream.{fit-append, fit-drop, place-append}
-use Rattle.ip_write.specs.Writing.{misplaced, writeFaults, progressOf, written}
-use Rattle.ip_write.proofs.Places.{done-most, queue-join, queue-drop}
-use Rattle.ip_write.proofs.First.{in-place}
+use Rattle.ip_queue.specs.Looking.{misplaced}
+use Rattle.ip_queue.proofs.Places.{done-most, queue-join, queue-drop}
+use Rattle.ip_queue.proofs.First.{in-place}
+use Rattle.ip_write.specs.Writing.{writeFaults, progressOf, written}
 use Rattle.ip_write.proofs.Refusals.{Taken, taken, none-wrong}
 use Rattle.ip_streams.specs.Calls.{WriteCall, doneOf, sentOf}
 use Rattle.ip_streams.specs.Streams.{NothingToCarry, Front}

@@ -20,9 +20,9 @@ use Rattle.ip.specs.Write.{Filled, behind, filler, fill}
 use Rattle.ip.specs.Memory.{Queue, queue}
 use Rattle.ip.proofs.Walk.{header-length, whole-length}
 use Rattle.ip.proofs.Fill.{may-begin, fill-ends, fill-runs, fill-waits, cut}
-use Rattle.ip_write.specs.Places.{queueAt, lengthAt, packetAt}
+use Rattle.ip_queue.specs.Places.{queueAt, lengthAt, packetAt}
 use Rattle.ip_write.specs.Steps.{headerNumber, Waits, fillAt, Laid, Same, Ended}
-use Rattle.ip_write.proofs.Places.{Waiting, waiting, place-end, queue-length}
+use Rattle.ip_queue.proofs.Places.{Waiting, waiting, place-end, queue-length}
 
 -- ---- the header of a packet is one number
 pub header-is : (p : Packet) → Fit p

@@ -1,7 +1,5 @@
-pub mod Places
-pub mod Faults
 pub mod Laying
-pub mod First
+pub mod Begins
 pub mod Closes
 pub mod Refusals
 pub mod Agree

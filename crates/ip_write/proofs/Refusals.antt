@@ -1,71 +1,68 @@
 -- Laws of the writer's refusals: the facts that lead to each number, and what a number says.
 -- Assumes nothing.
-use Prim.Native.Nat.{ℕ, _<_}
-use mathlib.Core.Bool.{true, false, not}
+use Prim.Native.Nat.{ℕ, zero, suc, _<_}
+use mathlib.Core.Bool.{Bool, true, false, not}
 use mathlib.Core.Path.{_≡_, refl, sym, ap, _∙_}
 use mathlib.Core.List.{List, [], _∷_}
-use native.Mathlib.Decide.{decLt}
 use native.Mathlib.Omega.{arith}
 use borrow.Author.Tests.{eq-eqb, ne-eqb}
 use lib.Dec.{eqb}
-use Rattle.ground.specs.Choice.{Fault, refuse, firstOf}
-use Rattle.ground.proofs.Choice.{no-difference, first-clear, first-found, all-clear}
-use Rattle.ip.specs.Memory.{Queue}
-use Rattle.ip_write.specs.Writing.{misplaced, writeFaults}
+use Rattle.ground.specs.Choice.{choose, Fault, refuse, firstOf}
+use Rattle.ground.proofs.Choice.{choose-true, no-difference, first-at, all-clear, clear-all}
+use Rattle.ip.specs.Memory.{Queue, queueIn}
+use Rattle.ip_queue.specs.Looking.{misplaced, frontOf}
+use Rattle.ip_queue.proofs.Seen.{refusal-is}
+use Rattle.ip_write.specs.Steps.{callFaults}
+use Rattle.ip_write.specs.Writing.{writeFaults}
 
-module _ (sent : ℕ) (c : Queue) (word progress : ℕ) where
+-- n is the refusal of the queue and `sent`
+module _ (n word progress : ℕ) where
   abbrev faults : List Fault
-  faults = writeFaults sent c word progress
+  faults = callFaults n word progress
 
-  abbrev behind-3 : List Fault
-  behind-3 = refuse 1 (not (eqb progress 8)) ∷ []
+  pub front-wrong : 0 < n → n ≡ firstOf faults
+  front-wrong h = sym (first-at 0 faults tt (ap not (ne-eqb n 0 (λ z. omega (arith, h, z)))))
 
-  abbrev behind-2 : List Fault
-  behind-2 = refuse 1 (not (eqb word 1536)) ∷ behind-3
+  module _ (none : n ≡ 0) where
+    clear : not (eqb n 0) ≡ false
+    clear = ap not (eq-eqb n 0 none)
 
-  abbrev behind-1 : List Fault
-  behind-1 = refuse 1 (misplaced sent (c .packets)) ∷ behind-2
+    pub word-wrong : (word ≡ 1536 → ⊥) → 1 ≡ firstOf faults
+    word-wrong h = sym (first-at 1 faults (clear, tt) (ap not (ne-eqb word 1536 h)))
 
-  pub queue-wrong : (n : ℕ) → n ≡ c .number → 0 < n → n ≡ firstOf faults
-  queue-wrong n e h = e ∙ sym (first-found (refuse (c .number) (not (eqb (c .number) 0))) behind-1 (ap not (ne-eqb (c .number) 0 (λ z. omega (arith, h, e, z)))))
+    module _ (long : word ≡ 1536) where
+      pub progress-wrong : (progress ≡ 8 → ⊥) → 1 ≡ firstOf faults
+      progress-wrong h = sym (first-at 2 faults (clear, (ap not (eq-eqb word 1536 long), tt)) (ap not (ne-eqb progress 8 h)))
 
-  module _ (whole : c .number ≡ 0) where
-    past-1 : firstOf faults ≡ firstOf behind-1
-    past-1 = first-clear (refuse (c .number) (not (eqb (c .number) 0))) behind-1 (ap not (eq-eqb (c .number) 0 whole))
+      pub call-right : progress ≡ 8 → 0 ≡ firstOf faults
+      call-right h = sym (clear-all faults (clear, (ap not (eq-eqb word 1536 long), (ap not (eq-eqb progress 8 h), tt))))
 
-    pub sent-wrong : misplaced sent (c .packets) ≡ true → 1 ≡ firstOf faults
-    sent-wrong e = sym (past-1 ∙ first-found (refuse 1 (misplaced sent (c .packets))) behind-2 e)
+-- what a call that is not refused has shown
+pub taken : (n word progress : ℕ) → firstOf (callFaults n word progress) ≡ 0 → (n ≡ 0) × (word ≡ 1536) × (progress ≡ 8)
+taken zero word progress e =
+    let a = all-clear (refuse 1 (not (eqb word 1536)) ∷ refuse 1 (not (eqb progress 8)) ∷ []) tt e in
+    (refl, no-difference word 1536 (a .0), no-difference progress 8 (a .1 .0))
+taken (suc n) word progress e = absurd (omega (arith, e, front-wrong (suc n) word progress (omega arith)))
 
-    module _ (placed : misplaced sent (c .packets) ≡ false) where
-      past-2 : firstOf faults ≡ firstOf behind-2
-      past-2 = past-1 ∙ first-clear (refuse 1 (misplaced sent (c .packets))) behind-2 placed
+-- what is seen of the queue comes first: these are the writer's refusals in their order
+in-turn : (n : ℕ) (b : Bool) (x : ℕ)
+    → choose (not (eqb (choose (not (eqb n 0)) n (choose b 1 0)) 0)) (choose (not (eqb n 0)) n (choose b 1 0)) x ≡ choose (not (eqb n 0)) n (choose b 1 x)
+in-turn zero true x = refl
+in-turn zero false x = refl
+in-turn (suc n) b x =
+    let h : not (eqb (suc n) 0) ≡ true = ap not (ne-eqb (suc n) 0 (λ z. omega (arith, z))) in
+    ap (λ (m : ℕ). choose (not (eqb m 0)) m x) (choose-true (suc n) (choose b 1 0) h) ∙ choose-true (suc n) x h ∙ sym (choose-true (suc n) (choose b 1 x) h)
 
-      pub word-wrong : (word ≡ 1536 → ⊥) → 1 ≡ firstOf faults
-      word-wrong h = sym (past-2 ∙ first-found (refuse 1 (not (eqb word 1536))) behind-3 (ap not (ne-eqb word 1536 h)))
+pub in-order : (sent : ℕ) (q : List ℕ) (word progress : ℕ)
+    → firstOf (callFaults (frontOf sent q .refusal) word progress) ≡ firstOf (writeFaults sent (queueIn 0 q) word progress)
+in-order sent q word progress =
+    let c : Queue = queueIn 0 q in
+    ap (λ (n : ℕ). firstOf (callFaults n word progress)) (refusal-is sent q)
+    ∙ in-turn (c .number) (misplaced sent (c .packets)) (firstOf (refuse 1 (not (eqb word 1536)) ∷ refuse 1 (not (eqb progress 8)) ∷ []))
 
-      module _ (long : word ≡ 1536) where
-        past-3 : firstOf faults ≡ firstOf behind-3
-        past-3 = past-2 ∙ first-clear (refuse 1 (not (eqb word 1536))) behind-3 (ap not (eq-eqb word 1536 long))
-
-        pub progress-wrong : (progress ≡ 8 → ⊥) → 1 ≡ firstOf faults
-        progress-wrong h = sym (past-3 ∙ first-found (refuse 1 (not (eqb progress 8))) [] (ap not (ne-eqb progress 8 h)))
-
-        pub none-wrong : progress ≡ 8 → 0 ≡ firstOf faults
-        none-wrong h = sym (past-3 ∙ first-clear (refuse 1 (not (eqb progress 8))) [] (ap not (eq-eqb progress 8 h)))
-
--- what the writer asks
-pub record Taken (sent : ℕ) (c : Queue) (word progress : ℕ) : Type 0 where
-  pub whole : c .number ≡ 0
-  pub placed : misplaced sent (c .packets) ≡ false
-  pub word-is : word ≡ 1536
-  pub progress-is : progress ≡ 8
-
-pub taken : (sent : ℕ) (c : Queue) (word progress : ℕ) → firstOf (writeFaults sent c word progress) ≡ 0 → Taken sent c word progress
-taken sent c word progress e =
-    let z : c .number ≡ 0 =
-    elim (decLt 0 (c .number)) [
-      | yes h ↦ absurd (omega (arith, h, e, queue-wrong sent c word progress (c .number) refl h))
-      | no h ↦ omega arith
-    ] in
-    let a = all-clear (behind-1 sent c word progress) tt (sym (past-1 sent c word progress z) ∙ e) in
-    record { whole = z; placed = a .0; word-is = no-difference word 1536 (a .1 .0); progress-is = no-difference progress 8 (a .1 .1 .0) }
+-- a call that is as it has to be is not refused
+pub none-wrong : (sent : ℕ) (c : Queue) (word progress : ℕ) → c .number ≡ 0 → misplaced sent (c .packets) ≡ false → word ≡ 1536 → progress ≡ 8
+    → 0 ≡ firstOf (writeFaults sent c word progress)
+none-wrong sent c word progress whole placed long short =
+    sym (clear-all (writeFaults sent c word progress)
+    (ap not (eq-eqb (c .number) 0 whole), (placed, (ap not (eq-eqb word 1536 long), (ap not (eq-eqb progress 8 short), tt)))))

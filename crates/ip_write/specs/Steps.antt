@@ -1,15 +1,20 @@
 -- What the writer's functions promise each other: a payload is laid up to a place, from the queue up to a place.
 -- Assumes nothing.
 use Prim.Native.Nat.{ℕ, _+_, _-_, _*_, _≤_, _<_}
-use mathlib.Core.Bool.{false}
+use mathlib.Core.Bool.{not}
 use mathlib.Core.Path.{_≡_}
-use mathlib.Core.List.{List, _++_}
+use mathlib.Core.List.{List, [], _∷_, _++_}
+use lib.Dec.{eqb}
 use lib.ListN.{length, take}
+use Rattle.ground.specs.Choice.{Fault, refuse}
 use Rattle.ip.specs.Packet.{Packet}
 use Rattle.ip.specs.Write.{Filled, fill, wordFill}
-use Rattle.ip.specs.Memory.{queue, queueIn}
-use Rattle.ip_write.specs.Places.{queueAt, lengthAt}
-use Rattle.ip_write.specs.Writing.{misplaced}
+use Rattle.ip.specs.Memory.{queue}
+use Rattle.ip_queue.specs.Places.{queueAt, lengthAt}
+
+-- the writer's refusals where n is that of the queue and `sent`: then 1 for the lengths of word and progress
+abbrev pub callFaults : ℕ → ℕ → ℕ → List Fault
+callFaults n word progress = refuse n (not (eqb n 0)) ∷ refuse 1 (not (eqb word 1536)) ∷ refuse 1 (not (eqb progress 8)) ∷ []
 
 -- a packet's header as one number: IP_Packet_Type, IP_Packet_Error, IP_Packet_Length, RFU 0 (table 6)
 abbrev pub headerNumber : ℕ → ℕ → ℕ → ℕ
@@ -50,10 +55,6 @@ pub record Ended (q m : List ℕ) (at from : ℕ) (m' : List ℕ) (d s : ℕ) : 
   pub bytes : m' ≡ take at m ++ fillAt q at from .bytes
   pub done : d ≡ doneAt q at from
   pub sent : s ≡ fillAt q at from .sent
-
--- the queue ends with a packet, all its packets are such as are sent, and `sent` is in its place
-abbrev pub Ready : List ℕ → ℕ → Type 0
-Ready q sent = (queueIn 0 q .number ≡ 0) × (misplaced sent (queueIn 0 q .packets) ≡ false)
 
 -- a word's payload m from these packets, and how many bytes of the queue (d) and how much of the packet that is then first (s) are sent with it
 pub record Carries (sent : ℕ) (q : List Packet) (m : List ℕ) (d s : ℕ) : Type 0 where

@@ -1,23 +1,18 @@
 -- What the writer of a word of an IP stream answers and leaves, with the documents' refusals in their order.
 -- Assumes nothing.
-use Prim.Native.Nat.{ℕ, zero, suc}
-use mathlib.Core.Bool.{Bool, true, false, not}
+use Prim.Native.Nat.{ℕ}
+use mathlib.Core.Bool.{not}
 use mathlib.Core.List.{List, [], _∷_, _++_}
-use lib.Dec.{eqb, ltb}
+use lib.Dec.{eqb}
 use lib.ListN.{length, take}
 use Rattle.ground.specs.Outcome.{Outcome}
-use Rattle.ground.specs.Choice.{either, Fault, refuse, firstOf, refusing}
+use Rattle.ground.specs.Choice.{Fault, refuse, firstOf, refusing}
 use Rattle.bits.specs.Lists.{bits, pack}
 use Rattle.infoword.specs.Word.{ipWord}
 use Rattle.ip.specs.Packet.{Packet}
 use Rattle.ip.specs.Write.{address, wordFill}
 use Rattle.ip.specs.Memory.{queue, Queue, queueIn}
-
--- `sent` is out of place: above 0 with no packet, 1, or above the first packet's length + 1
-unfoldable pub misplaced : ℕ → List Packet → Bool
-misplaced zero q = false
-misplaced (suc s) [] = true
-misplaced (suc s) (p ∷ q) = either (eqb s 0) (ltb (length (p .bytes)) s)
+use Rattle.ip_queue.specs.Looking.{misplaced}
 
 -- 19 and 1 of what the queue holds; then 1: `sent` out of place, and the lengths of word and progress
 abbrev pub writeFaults : ℕ → Queue → ℕ → ℕ → List Fault

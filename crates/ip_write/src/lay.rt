@@ -1,7 +1,6 @@
 // One payload filled from the queue: what is left of the open packet, whole packets while they fit, and then the packet that runs on into
 // the next word, or padding.
-use crate::waiting;
-use crate::waiting::HEAD;
+use ip_queue::HEAD;
 ghost use mathlib.Core.Path.{_≡_};
 ghost use mathlib.Core.List.{_++_};
 ghost use Prim.Native.Nat.{_+_, _-_, _<_, _≤_};
@@ -11,8 +10,9 @@ ghost use Rattle.ground.specs.Choice.{choose};
 ghost use Rattle.bytes.specs.Runs.{copied};
 ghost use Rattle.ip.specs.Packet.{header, whole};
 ghost use Rattle.ip.specs.Memory.{queueIn};
-ghost use Rattle.ip_write.specs.Places.{lengthAt, packetAt};
-ghost use Rattle.ip_write.specs.Steps.{headerNumber, Waits, Laid, Same, NoneFits, Ended, Ready, Carries};
+ghost use Rattle.ip_queue.specs.Places.{lengthAt, packetAt};
+ghost use Rattle.ip_queue.specs.Looking.{Ready};
+ghost use Rattle.ip_write.specs.Steps.{headerNumber, Waits, Laid, Same, NoneFits, Ended, Carries};
 
 // The payload of an IP stream's word, in bytes (clause 4.3.4).
 pub const PAYLOAD: usize = 1504;
@@ -30,6 +30,14 @@ struct Place {
 pub struct Progress {
     pub done: u32,
     pub sent: u32,
+}
+
+// The length of the packet at a place of the queue.
+fn length_at(queue: &[u8], at: usize) -> usize
+    requires { ⌜ at + 4 ≤ length (now queue) ⌝ }
+    ensures { λ r. ⌜ (r ≡ lengthAt (now (queue .entry)) at) × (r < 65536) ⌝ }
+{
+    bytes::two(queue[at + 2], queue[at + 3])
 }
 
 // IP_Packet_Error: 0 for an error byte of 0, 1 for any other.
@@ -55,7 +63,7 @@ fn put_header(queue: &[u8], from: usize, payload: &mut [u8], at: usize)
     requires { ⌜ Waits (now queue) from × (at + 2 ≤ length (now payload)) ⌝ }
     ensures { λ _. ⌜ now (payload .exit) ≡ copied (header (packetAt (now (queue .entry)) from)) (now (payload .entry)) at ⌝ }
 {
-    let n = waiting::length_at(queue, from);
+    let n = length_at(queue, from);
     let v = header_number(queue[from], queue[from + 1], n);
     payload[at] = (v / 256 % 256) as u8;
     payload[at + 1] = (v % 256) as u8;
@@ -80,7 +88,7 @@ fn put_packets(queue: &[u8], payload: &mut [u8], place: Place) -> Place
     let mut at = place.at;
     let mut from = place.from;
     while from < queue.len() {
-        let n = waiting::length_at(queue, from);
+        let n = length_at(queue, from);
         if PAYLOAD - at < n + HEADER {
             return Place { at, from };
         }
@@ -154,9 +162,9 @@ pub fn fill(queue: &[u8], sent: u32, payload: &mut [u8]) -> Progress
     if sent == 0 {
         return put_rest(queue, payload, Place { at: 0, from: 0 });
     }
-    let left = waiting::to_come(queue, sent) as usize;
-    // the first packet's data from where it was cut
+    // the first packet's data from where it was cut, and how much of it is still to come: in both its header is counted
     let begin = sent as usize + HEAD - HEADER;
+    let left = length_at(queue, 0) + HEADER - sent as usize;
     if PAYLOAD < left {
         bytes::copy(&queue[begin..begin + PAYLOAD], payload, 0);
         return Progress {

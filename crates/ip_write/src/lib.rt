@@ -1,6 +1,5 @@
 // Payload words of IP streams (clause 4.3.4), written: packets that wait in a queue go into word after word.
 mod lay;
-mod waiting;
 
 use ground::LENGTH_WRONG;
 use ground::PAYLOAD_WORD;
@@ -15,8 +14,8 @@ ghost use Rattle.ground.specs.Outcome.{Is};
 ghost use Rattle.ground.specs.Choice.{firstOf};
 ghost use Rattle.bits.specs.Lists.{bits, pack};
 ghost use Rattle.infoword.specs.Word.{ipWord};
-ghost use Rattle.ip.specs.Memory.{queueIn};
-ghost use Rattle.ip_write.specs.Writing.{writeFaults, written};
+ghost use Rattle.ip_write.specs.Steps.{callFaults};
+ghost use Rattle.ip_write.specs.Writing.{written};
 
 // Two numbers of four bytes.
 const PROGRESS: usize = 8;
@@ -24,16 +23,12 @@ const PROGRESS: usize = 8;
 // The byte with the first eight bits of First_Header_Address; its last four begin the last four bytes of the word (table 5).
 const ADDRESS: usize = 1531;
 
-// The refusal of a write, by the queue, `sent` and the lengths of word and progress.
-fn refusal(queue: &[u8], sent: u32, word: usize, progress: usize) -> u8
-    ensures { λ r. ⌜ r ≡ firstOf (writeFaults sent (queueIn 0 (now (queue .entry))) word progress) ⌝ }
+// The refusal of a write: that of the queue and `sent`, and then by the lengths of word and progress.
+fn refusal(n: u8, word: usize, progress: usize) -> u8
+    ensures { λ r. ⌜ r ≡ firstOf (callFaults n word progress) ⌝ }
 {
-    let n = waiting::fault(queue);
     if 0 < n {
         return n;
-    }
-    if waiting::out_of_place(queue, sent) {
-        return LENGTH_WRONG;
     }
     if word != PAYLOAD_WORD {
         return LENGTH_WRONG;
@@ -82,13 +77,13 @@ fn put_progress(progress: &mut [u8], p: Progress)
 pub fn write(id: u8, sent: u32, queue: &[u8], word: &mut [u8], progress: &mut [u8]) -> u8
     ensures { λ r. ⌜ Is (written id sent (now (queue .entry)) (now (word .entry)) (now (progress .entry))) r (now (word .exit), now (progress .exit)) × (id < 256) ⌝ }
 {
-    let n = refusal(queue, sent, word.len(), progress.len());
+    let front = ip_queue::look(queue, sent);
+    let n = refusal(front.refusal, word.len(), progress.len());
     if 0 < n {
         return n;
     }
-    let address = waiting::first_header(queue, sent);
     let done = lay::fill(queue, sent, &mut word[..lay::PAYLOAD]);
-    close(word, id, address);
+    close(word, id, front.address);
     put_progress(progress, done);
     0
 }

@@ -1,16 +1,18 @@
 -- `ip_write::lay::fill` meets its contract: what is left of the open packet first, and the rest behind it. Assumes nothing.
-use Prim.Native.Nat.{_+_, _-_, _≤_}
-use mathlib.Core.Path.{refl, _∙_}
+use Prim.Native.Nat.{_+_, _-_}
+use mathlib.Core.Path.{_≡_, refl}
 use native.Mathlib.Omega.{arith}
-use Rattle.ip_write.proofs.First.{first-ends, first-most, sent-between, to-come-is, first-runs, first-laid, first-carries, none-carries}
+use Rattle.ip_queue.specs.Places.{lengthAt}
+use Rattle.ip_queue.proofs.First.{Partly, partly}
+use Rattle.ip_write.proofs.Begins.{first-runs, first-laid, first-carries, none-carries}
 use borrow.Author.Needs.{needs}
 use Rattle.ip_write.proofs.lay.fill.Statement.{statement}
 use Rattle.ip_write.proofs.lay.fill.Tie as tie
 use Rattle.ip_write.proofs.lay.fill.Reads as reads
 use Rattle.ip_write.proofs.lay.fill.Lts as lts
 use Rattle.bytes.proofs.copy.Reads as copy-reads
+use Rattle.ip_write.proofs.lay.length_at.Reads as length-at-reads
 use Rattle.ip_write.proofs.lay.put_rest.Reads as put-rest-reads
-use Rattle.ip_write.proofs.waiting.to_come.Reads as to-come-reads
 
 put-rest-requires : tie.Need-put-rest-requires
 put-rest-requires c κs = search needs
@@ -26,17 +28,30 @@ returns c =
     none-carries (s .args .queue .now) (s .args .payload .now) (r .put-rest .last .1 .0) (s .args .sent) (r .put-rest .result .done) (r .put-rest .result .sent)
     (i .if1 .taken) (r .put-rest .ensures)
 
-to-come-requires : tie.Need-to-come-requires
-to-come-requires c κs = search needs
-
-cast-left : tie.Need-cast-left
-cast-left c = search needs
+-- something is sent of the first packet
+opened : (c : tie.Else1) → let a = c .before .before .before .args in Partly (a .queue .now) (a .sent)
+opened c =
+    let s = c .before .before .before in
+    partly (s .args .queue .now) (s .args .sent) (s .pre .0) (search needs)
 
 add-begin : tie.Need-add-begin
 add-begin c = search needs
 
 sub-begin : tie.Need-sub-begin
 sub-begin c = search needs
+
+length-at-requires : tie.Need-length-at-requires
+length-at-requires c κs = omega (arith, opened c .ends)
+
+add-left : tie.Need-add-left
+add-left c = search needs
+
+sub-left : tie.Need-sub-left
+sub-left c = omega (arith, opened (c .before) .high, c .length-at .ensures .0)
+
+-- what is still to come of it
+left : (c : tie.After-length-at) → let a = c .before .before .before .before .args in c .length-at .result + 2 - a .sent ≡ lengthAt (a .queue .now) 0 + 2 - a .sent
+left c = omega (arith, c .length-at .ensures .0)
 
 add-copy : tie.Need-add-copy
 add-copy c = search needs
@@ -49,11 +64,9 @@ part-copy-start c = search needs
 
 part-copy-end : tie.Need-part-copy-end
 part-copy-end c =
-    let t = c .before in
-    let s = t .before .before .before .before in
-    let a : 1 ≤ s .args .sent = search needs in
-    let b = sent-between (s .args .queue .now) (s .args .sent) (s .pre .0) a in
-    omega (arith, b .0, b .1, first-ends (s .args .queue .now) (s .args .sent) (s .pre .0) a, to-come-is (s .args .queue .now) (s .args .sent) (s .pre .0) a, t .to-come .ensures .0, c .if2 .taken)
+    let n = c .before in
+    let k = opened (n .before) in
+    omega (arith, k .ends, k .low, k .high, n .length-at .ensures .0, c .if2 .taken)
 
 copy-requires : tie.Need-copy-requires
 copy-requires c κs = search needs
@@ -62,10 +75,7 @@ cast-t22 : tie.Need-cast-t22
 cast-t22 c = search needs
 
 add-t23 : tie.Need-add-t23
-add-t23 c =
-    let s = c .before .before .before .before .before .before .before .before .before .before in
-    let a : 1 ≤ s .args .sent = search needs in
-    omega (arith, sent-between (s .args .queue .now) (s .args .sent) (s .pre .0) a .1, first-most (s .args .queue .now) (s .args .sent) (s .pre .0) a)
+add-t23 c = search needs
 
 same-length-2 : tie.Need-same-length-2
 same-length-2 c = search needs
@@ -74,12 +84,11 @@ returns-2 : tie.Need-returns-2
 returns-2 c =
     let y = c .before .before in
     let i = y .before .before .before in
-    let t = i .before in
-    let s = t .before .before .before .before in
-    let a : 1 ≤ s .args .sent = search needs in
-    let q = s .args .queue .now in
-    first-runs q (s .args .sent) (s .pre .0) a (s .args .payload .now) (y .copy .last .1 .0) (s .args .sent + 4 - 2) (s .args .sent + 4 - 2 + 1504 - (s .args .sent + 4 - 2))
-    (s .pre .1) (omega (arith, to-come-is q (s .args .sent) (s .pre .0) a, t .to-come .ensures .0, i .if2 .taken)) (omega arith) (omega arith) (y .copy .ensures)
+    let n = i .before in
+    let s = n .before .before .before .before in
+    let b = s .args .sent + 4 - 2 in
+    first-runs (s .args .queue .now) (s .args .sent) (opened (n .before)) (s .args .payload .now) (y .copy .last .1 .0) b (b + 1504 - b)
+    (s .pre .1) (omega (arith, left n, i .if2 .taken)) (omega arith) (omega arith) (y .copy .ensures)
 
 add-end : tie.Need-add-end
 add-end c = search needs
@@ -92,11 +101,9 @@ part-copy-start-2 c = search needs
 
 part-copy-end-2 : tie.Need-part-copy-end-2
 part-copy-end-2 c =
-    let t = c .before in
-    let s = t .before .before .before .before in
-    let a : 1 ≤ s .args .sent = search needs in
-    let b = sent-between (s .args .queue .now) (s .args .sent) (s .pre .0) a in
-    omega (arith, b .0, b .1, first-ends (s .args .queue .now) (s .args .sent) (s .pre .0) a, to-come-is (s .args .queue .now) (s .args .sent) (s .pre .0) a, t .to-come .ensures .0)
+    let n = c .before in
+    let k = opened (n .before) in
+    omega (arith, k .ends, k .low, k .high, n .length-at .ensures .0)
 
 copy-requires-2 : tie.Need-copy-requires-2
 copy-requires-2 c κs = search needs
@@ -105,14 +112,12 @@ put-rest-requires-2 : tie.Need-put-rest-requires-2
 put-rest-requires-2 c κs =
     let y = c .before .before .before in
     let i = y .before .before .before in
-    let t = i .before in
-    let s = t .before .before .before .before in
-    let a : 1 ≤ s .args .sent = search needs in
-    let q = s .args .queue .now in
+    let n = i .before in
+    let s = n .before .before .before .before in
     let b = s .args .sent + 4 - 2 in
-    let l = t .to-come .result in
-    first-laid q (s .args .sent) (s .pre .0) a (s .args .payload .now) (y .copy2 .last .1 .0) b (b + l - b) l (b + l)
-    (s .pre .1) (t .to-come .ensures .0 ∙ to-come-is q (s .args .sent) (s .pre .0) a) (omega (arith, i .if2 .left)) (omega arith) (omega arith) refl (y .copy2 .ensures)
+    let l = n .length-at .result + 2 - s .args .sent in
+    first-laid (s .args .queue .now) (s .args .sent) (opened (n .before)) (s .args .payload .now) (y .copy2 .last .1 .0) b (b + l - b) l (b + l)
+    (s .pre .1) (left n) (omega (arith, i .if2 .left)) (omega arith) (omega arith) refl (y .copy2 .ensures)
 
 same-length-3 : tie.Need-same-length-3
 same-length-3 c = search needs
@@ -122,14 +127,12 @@ returns-3 c =
     let r = c .before .before in
     let y = r .before .before .before .before in
     let i = y .before .before .before in
-    let t = i .before in
-    let s = t .before .before .before .before in
-    let a : 1 ≤ s .args .sent = search needs in
-    let q = s .args .queue .now in
+    let n = i .before in
+    let s = n .before .before .before .before in
     let b = s .args .sent + 4 - 2 in
-    let l = t .to-come .result in
-    first-carries q (s .args .sent) (s .pre .0) a (s .args .payload .now) (y .copy2 .last .1 .0) b (b + l - b) l (b + l)
-    (s .pre .1) (t .to-come .ensures .0 ∙ to-come-is q (s .args .sent) (s .pre .0) a) (omega (arith, i .if2 .left)) (omega arith) (omega arith) refl (y .copy2 .ensures)
+    let l = n .length-at .result + 2 - s .args .sent in
+    first-carries (s .args .queue .now) (s .args .sent) (opened (n .before)) (s .args .payload .now) (y .copy2 .last .1 .0) b (b + l - b) l (b + l)
+    (s .pre .1) (left n) (omega (arith, i .if2 .left)) (omega arith) (omega arith) refl (y .copy2 .ensures)
     (r .put-rest2 .last .1 .0) (r .put-rest2 .result .done) (r .put-rest2 .result .sent) (r .put-rest2 .ensures)
 
 pub fill-spec : {M : Type 1} → statement M
@@ -139,10 +142,11 @@ fill-spec =
     put-rest-requires
     same-length
     returns
-    to-come-requires
-    cast-left
     add-begin
     sub-begin
+    length-at-requires
+    add-left
+    sub-left
     add-copy
     sub-copy
     part-copy-start

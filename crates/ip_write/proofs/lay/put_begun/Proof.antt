@@ -1,7 +1,7 @@
 -- `ip_write::lay::put_begun` meets its contract: as much data behind the header as fits. Assumes nothing.
 use Prim.Native.Nat.{_+_, _-_}
 use native.Mathlib.Omega.{arith}
-use Rattle.ip_write.proofs.Places.{waiting}
+use Rattle.ip_queue.proofs.Places.{waiting}
 use Rattle.ip_write.proofs.Laying.{begun-put}
 use borrow.Author.Needs.{needs}
 use Rattle.ip_write.proofs.lay.put_begun.Statement.{statement}

@@ -2,9 +2,9 @@
 use mathlib.Core.Path.{ap, _∙_}
 use native.Mathlib.Omega.{arith}
 use lib.ListN.{length-set}
-use Rattle.ip_write.specs.Places.{packetAt}
+use Rattle.ip_queue.specs.Places.{packetAt}
 use Rattle.ip_write.specs.Steps.{headerNumber}
-use Rattle.ip_write.proofs.Places.{waiting}
+use Rattle.ip_queue.proofs.Places.{waiting}
 use Rattle.ip_write.proofs.Laying.{header-put}
 use borrow.Author.Needs.{needs}
 use Rattle.ip_write.proofs.lay.put_header.Statement.{statement}
@@ -12,7 +12,7 @@ use Rattle.ip_write.proofs.lay.put_header.Tie as tie
 use Rattle.ip_write.proofs.lay.put_header.Reads as reads
 use Rattle.ip_write.proofs.lay.put_header.Lts as lts
 use Rattle.ip_write.proofs.lay.header_number.Reads as header-number-reads
-use Rattle.ip_write.proofs.waiting.length_at.Reads as length-at-reads
+use Rattle.ip_write.proofs.lay.length_at.Reads as length-at-reads
 
 length-at-requires : tie.Need-length-at-requires
 length-at-requires c κs =

@@ -5,14 +5,14 @@ use native.Mathlib.Omega.{arith}
 use lib.ListN.{length}
 use borrow.Author.Needs.{needs}
 use Rattle.ip_write.specs.Steps.{Laid, Same}
-use Rattle.ip_write.proofs.Places.{waiting}
+use Rattle.ip_queue.proofs.Places.{waiting}
 use Rattle.ip_write.proofs.Laying.{same-none, packet-more}
 use Rattle.ip_write.proofs.lay.put_packets.Statement.{statement}
 use Rattle.ip_write.proofs.lay.put_packets.Tie as tie
 use Rattle.ip_write.proofs.lay.put_packets.Reads as reads
 use Rattle.ip_write.proofs.lay.put_packets.Lts as lts
 use Rattle.ip_write.proofs.lay.put_whole.Reads as put-whole-reads
-use Rattle.ip_write.proofs.waiting.length_at.Reads as length-at-reads
+use Rattle.ip_write.proofs.lay.length_at.Reads as length-at-reads
 
 abbrev Inv-loop : tie.InvT-loop
 Inv-loop queue payload₀ at₀ from₀ payload at from = Laid queue payload at from × Same queue payload₀ at₀ from₀ payload at from

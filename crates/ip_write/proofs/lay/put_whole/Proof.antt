@@ -2,7 +2,7 @@
 use Prim.Native.Nat.{_+_, _-_}
 use native.Mathlib.Omega.{arith}
 use borrow.Author.Needs.{needs}
-use Rattle.ip_write.proofs.Places.{waiting}
+use Rattle.ip_queue.proofs.Places.{waiting}
 use Rattle.ip_write.proofs.Laying.{whole-put}
 use Rattle.ip_write.proofs.lay.put_whole.Statement.{statement}
 use Rattle.ip_write.proofs.lay.put_whole.Tie as tie

@@ -1,18 +1,18 @@
--- `ip_write::waiting::fault` meets its contract: what is wrong in the queue is wrong in what is left of it. Assumes nothing.
+-- `ip_queue::fault` meets its contract: what is wrong in the queue is wrong in what is left of it. Assumes nothing.
 use Prim.Native.Nat.{_-_, _≤_}
 use mathlib.Core.Path.{_≡_, refl, sym}
 use native.Mathlib.Omega.{arith}
 use lib.ListN.{length}
 use borrow.Author.Needs.{needs}
 use Rattle.ip.specs.Memory.{queueIn}
-use Rattle.ip_write.specs.Places.{queueAt}
-use Rattle.ip_write.proofs.Faults.{fault-none, fault-short, fault-unfit, fault-cut, fault-more}
-use Rattle.ip_write.proofs.waiting.fault.Statement.{statement}
-use Rattle.ip_write.proofs.waiting.fault.Tie as tie
-use Rattle.ip_write.proofs.waiting.fault.Reads as reads
-use Rattle.ip_write.proofs.waiting.fault.Lts as lts
-use Rattle.ip_write.proofs.waiting.length_at.Reads as length-at-reads
-use Rattle.ip_write.proofs.waiting.unsendable.Reads as unsendable-reads
+use Rattle.ip_queue.specs.Places.{queueAt}
+use Rattle.ip_queue.proofs.Faults.{fault-none, fault-short, fault-unfit, fault-cut, fault-more}
+use Rattle.ip_queue.proofs.fault.Statement.{statement}
+use Rattle.ip_queue.proofs.fault.Tie as tie
+use Rattle.ip_queue.proofs.fault.Reads as reads
+use Rattle.ip_queue.proofs.fault.Lts as lts
+use Rattle.ip_queue.proofs.length_at.Reads as length-at-reads
+use Rattle.ip_queue.proofs.unsendable.Reads as unsendable-reads
 
 abbrev Inv-loop : tie.InvT-loop
 Inv-loop queue at₀ at = (at ≤ length queue) × (queueIn 0 queue .number ≡ queueAt queue at .number)

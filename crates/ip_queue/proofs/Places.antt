@@ -22,7 +22,7 @@ use Rattle.ip.proofs.Any.{open-sound, room-enough}
 use Rattle.ip.proofs.Fill.{fill-length}
 use Rattle.ip.proofs.Word.{word-in-step}
 use Rattle.ip.proofs.Memory.{queue-skip, queue-fit, tested-fit}
-use Rattle.ip_write.specs.Places.{queueAt, lengthAt, packetAt}
+use Rattle.ip_queue.specs.Places.{queueAt, lengthAt, packetAt}
 
 -- what comes of a packet's four bytes and of what stands behind them
 abbrev taken : ℕ → ℕ → ℕ → List ℕ → Queue

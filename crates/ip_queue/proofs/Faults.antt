@@ -7,8 +7,8 @@ use mathlib.Core.List.{List}
 use native.Mathlib.Omega.{arith}
 use lib.ListN.{length, getD}
 use Rattle.ip.specs.Memory.{Queue, unfit}
-use Rattle.ip_write.specs.Places.{queueAt, lengthAt}
-use Rattle.ip_write.proofs.Places.{place-end, place-short, place-unfit, place-cut, place-packet}
+use Rattle.ip_queue.specs.Places.{queueAt, lengthAt}
+use Rattle.ip_queue.proofs.Places.{place-end, place-short, place-unfit, place-cut, place-packet}
 
 module _ (q : List ℕ) (at w : ℕ) (left : w ≡ queueAt q at .number) where
   pub fault-none : length q ≤ at → w ≡ 0

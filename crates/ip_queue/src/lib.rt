@@ -1,27 +1,35 @@
-// The queue of packets that wait: each as four bytes (type; error; length, two bytes) and its data, packet after packet.
+// The queue of packets that wait for an IP stream (clause 4.3.4), looked at before a word is written: each packet as four bytes (type; error;
+// length, two bytes) and its data, packet after packet.
+use ground::LENGTH_WRONG;
+use ground::PACKETS_WRONG;
 ghost use mathlib.Core.Path.{_≡_};
 ghost use Prim.Native.Nat.{_+_, _<_, _≤_};
 ghost use lib.ListN.{length};
 ghost use Rattle.ip.specs.Memory.{unfit, queueIn};
 ghost use Rattle.ip.specs.Write.{toCome, address};
-ghost use Rattle.ip_write.specs.Places.{lengthAt};
-ghost use Rattle.ip_write.specs.Writing.{misplaced};
-ghost use Rattle.ip_write.specs.Steps.{Ready};
+ghost use Rattle.ip_queue.specs.Places.{lengthAt};
+ghost use Rattle.ip_queue.specs.Looking.{misplaced, Ready, frontOf};
 
 // The four bytes before a packet's data.
 pub const HEAD: usize = 4;
 
-// First_Header_Address where no header begins in the word, and the last place where one fits.
+// First_Header_Address where no header begins in the word (table 5), and the last place where one fits.
 const NO_HEADER: u32 = 0xFFF;
 
 const LAST_HEADER: u32 = 1502;
 
+// What a word needs to know of the queue that it is to be filled from: why it is refused, and if it is not, First_Header_Address.
+pub struct Front {
+    pub refusal: u8,
+    pub address: u32,
+}
+
 // The length of the packet at a place.
-pub fn length_at(queue: &[u8], at: usize) -> usize
+fn length_at(queue: &[u8], at: usize) -> usize
     requires { ⌜ at + 4 ≤ length (now queue) ⌝ }
     ensures { λ r. ⌜ (r ≡ lengthAt (now (queue .entry)) at) × (r < 65536) ⌝ }
 {
-    queue[at + 2] as usize * 256 + queue[at + 3] as usize
+    bytes::two(queue[at + 2], queue[at + 3])
 }
 
 // A packet that is not sent: a type that is not 1 or 2, or a length that is not 1 to 4,095.
@@ -41,21 +49,21 @@ fn unsendable(kind: u8, n: usize) -> bool
 }
 
 // The refusal of a queue: 19 for a packet that is not sent, 1 for an end inside a packet or its four bytes, whichever comes first.
-pub fn fault(queue: &[u8]) -> u8
+fn fault(queue: &[u8]) -> u8
     ensures { λ r. ⌜ r ≡ queueIn 0 (now (queue .entry)) .number ⌝ }
 {
     let mut at = 0;
     while at < queue.len() {
         if queue.len() - at < HEAD {
-            return ground::LENGTH_WRONG;
+            return LENGTH_WRONG;
         }
         let n = length_at(queue, at);
         if unsendable(queue[at], n) {
-            return ground::PACKETS_WRONG;
+            return PACKETS_WRONG;
         }
         // no sum over the queue's length, which may be any
         if queue.len() - at - HEAD < n {
-            return ground::LENGTH_WRONG;
+            return LENGTH_WRONG;
         }
         at += HEAD + n;
     }
@@ -63,7 +71,7 @@ pub fn fault(queue: &[u8]) -> u8
 }
 
 // Whether `sent` is out of place: above 0 with no packet, 1 (a header is never split), or as much as the first packet and its header.
-pub fn out_of_place(queue: &[u8], sent: u32) -> bool
+fn out_of_place(queue: &[u8], sent: u32) -> bool
     requires { ⌜ queueIn 0 (now queue) .number ≡ 0 ⌝ }
     ensures { λ r. ⌜ r ≡ misplaced sent (queueIn 0 (now (queue .entry)) .packets) ⌝ }
 {
@@ -77,7 +85,7 @@ pub fn out_of_place(queue: &[u8], sent: u32) -> bool
 }
 
 // How many bytes of the packet that is open are still to come.
-pub fn to_come(queue: &[u8], sent: u32) -> u32
+fn to_come(queue: &[u8], sent: u32) -> u32
     requires { ⌜ Ready (now queue) sent ⌝ }
     ensures { λ r. ⌜ (r ≡ toCome sent (queueIn 0 (now (queue .entry)) .packets)) × (r < 4096) ⌝ }
 {
@@ -89,13 +97,38 @@ pub fn to_come(queue: &[u8], sent: u32) -> u32
 }
 
 // First_Header_Address: behind what is still to come of the open packet, also where padding begins there.
-pub fn first_header(queue: &[u8], sent: u32) -> u32
+fn first_header(queue: &[u8], sent: u32) -> u32
     requires { ⌜ Ready (now queue) sent ⌝ }
-    ensures { λ r. ⌜ (r ≡ address sent (queueIn 0 (now (queue .entry)) .packets)) × (r < 4096) ⌝ }
+    ensures { λ r. ⌜ r ≡ address sent (queueIn 0 (now (queue .entry)) .packets) ⌝ }
 {
     let r = to_come(queue, sent);
     if r <= LAST_HEADER {
         return r;
     }
     NO_HEADER
+}
+
+// Looks at the queue, of whose first packet earlier words carry `sent` bytes, its header counted: the refusal of the queue itself first,
+// then 1 for `sent` out of place; where there is none, the address.
+pub fn look(queue: &[u8], sent: u32) -> Front
+    ensures { λ r. ⌜ r ≡ frontOf sent (now (queue .entry)) ⌝ }
+{
+    let n = fault(queue);
+    if 0 < n {
+        return Front {
+            refusal: n,
+            address: 0,
+        };
+    }
+    if out_of_place(queue, sent) {
+        return Front {
+            refusal: LENGTH_WRONG,
+            address: 0,
+        };
+    }
+    let address = first_header(queue, sent);
+    Front {
+        refusal: 0,
+        address,
+    }
 }

@@ -1,12 +1,12 @@
--- `ip_write::waiting::unsendable` meets its contract. Assumes nothing.
+-- `ip_queue::unsendable` meets its contract. Assumes nothing.
 use mathlib.Core.Path.{refl, sym}
 use native.Mathlib.Omega.{arith}
 use borrow.Author.Tests.{eq-eqb, ne-eqb, lt-ltb, le-ltb}
 use Rattle.ground.proofs.Choice.{skip, hit}
-use Rattle.ip_write.proofs.waiting.unsendable.Statement.{statement}
-use Rattle.ip_write.proofs.waiting.unsendable.Tie as tie
-use Rattle.ip_write.proofs.waiting.unsendable.Reads as reads
-use Rattle.ip_write.proofs.waiting.unsendable.Lts as lts
+use Rattle.ip_queue.proofs.unsendable.Statement.{statement}
+use Rattle.ip_queue.proofs.unsendable.Tie as tie
+use Rattle.ip_queue.proofs.unsendable.Reads as reads
+use Rattle.ip_queue.proofs.unsendable.Lts as lts
 
 returns : tie.Need-returns
 returns c =

@@ -1,14 +1,14 @@
--- `ip_write::waiting::out_of_place` meets its contract. Assumes nothing.
+-- `ip_queue::out_of_place` meets its contract. Assumes nothing.
 use mathlib.Core.Path.{sym}
 use native.Mathlib.Omega.{arith}
 use borrow.Author.Needs.{needs}
-use Rattle.ip_write.proofs.Places.{waiting}
-use Rattle.ip_write.proofs.First.{misplaced-none, misplaced-one, misplaced-above}
-use Rattle.ip_write.proofs.waiting.out_of_place.Statement.{statement}
-use Rattle.ip_write.proofs.waiting.out_of_place.Tie as tie
-use Rattle.ip_write.proofs.waiting.out_of_place.Reads as reads
-use Rattle.ip_write.proofs.waiting.out_of_place.Lts as lts
-use Rattle.ip_write.proofs.waiting.length_at.Reads as length-at-reads
+use Rattle.ip_queue.proofs.Places.{waiting}
+use Rattle.ip_queue.proofs.First.{misplaced-none, misplaced-one, misplaced-above}
+use Rattle.ip_queue.proofs.out_of_place.Statement.{statement}
+use Rattle.ip_queue.proofs.out_of_place.Tie as tie
+use Rattle.ip_queue.proofs.out_of_place.Reads as reads
+use Rattle.ip_queue.proofs.out_of_place.Lts as lts
+use Rattle.ip_queue.proofs.length_at.Reads as length-at-reads
 
 returns : tie.Need-returns
 returns c =
