@@ -4,13 +4,15 @@ use Prim.Native.Nat.{ℕ, zero, suc, _+_, _≤_, _<_}
 use mathlib.Core.Bool.{Bool, true, false, not}
 use mathlib.Core.Path.{_≡_, refl, sym, ap, ap₂, _∙_, subst}
 use mathlib.Core.List.{List, [], _∷_, _++_}
+use native.Mathlib.Decide.{decLt}
 use native.Mathlib.Omega.{arith}
 use borrow.Author.Tests.{eq-eqb, ne-eqb, le-ltb}
+use lib.Dec.{eqb}
 use lib.ListN.{length, take, drop, replicate}
 use lib.Seq.{take-at, drop-at, take-append-le}
 use Rattle.ground.specs.Outcome.{Is}
-use Rattle.ground.specs.Choice.{choose, firstOf}
-use Rattle.ground.proofs.Choice.{choose-true, skip}
+use Rattle.ground.specs.Choice.{choose, Fault, refuse, firstOf}
+use Rattle.ground.proofs.Choice.{choose-true, skip, no-difference, first-clear, first-found, all-clear}
 use Rattle.bits.specs.Lists.{bits, num, unpack, pack}
 use Rattle.bits.proofs.Lists.{bits-length, bits-below, num-bits, unpack-pack, pack-length}
 use Rattle.infoword.specs.Word.{ipWord}
@@ -26,7 +28,7 @@ use Rattle.ip_queue.specs.Looking.{misplaced}
 use Rattle.ip_queue.proofs.Places.{done-most, queue-join, queue-drop}
 use Rattle.ip_queue.proofs.First.{in-place}
 use Rattle.ip_write.specs.Writing.{writeFaults, progressOf, written}
-use Rattle.ip_write.proofs.Refusals.{Taken, taken, none-wrong}
+use Rattle.ip_write.proofs.Refusals.{none-wrong}
 use Rattle.ip_streams.specs.Calls.{WriteCall, doneOf, sentOf}
 use Rattle.ip_streams.specs.Streams.{NothingToCarry, Front}
 
@@ -133,6 +135,26 @@ nothing-to-carry c did s e l p =
       word-left c did [] held tt at l p ∙ ap (λ (x : ℕ). ipWord (c .id) (address x []) (wordFill x [] .bytes)) s,
       progress-left c did [] held tt at l p ∙ ap (λ (x : ℕ). progressOf x []) s,
     )
+
+-- what the writer asks
+record Taken (sent : ℕ) (c : Queue) (word progress : ℕ) : Type 0 where
+  whole : c .number ≡ 0
+  placed : misplaced sent (c .packets) ≡ false
+  word-is : word ≡ 1536
+  progress-is : progress ≡ 8
+
+taken : (sent : ℕ) (c : Queue) (word progress : ℕ) → firstOf (writeFaults sent c word progress) ≡ 0 → Taken sent c word progress
+taken sent c word progress e =
+    elim (decLt 0 (c .number)) [
+      | yes h ↦ absurd (omega (arith, h, e, first-found (refuse (c .number) (not (eqb (c .number) 0))) rest (ap not (ne-eqb (c .number) 0 (λ n. omega (arith, h, n))))))
+      | no h ↦ (
+          let z : c .number ≡ 0 = omega arith in
+          let a = all-clear rest tt (sym (first-clear (refuse (c .number) (not (eqb (c .number) 0))) rest (ap not (eq-eqb (c .number) 0 z))) ∙ e) in
+          record { whole = z; placed = a .0; word-is = no-difference word 1536 (a .1 .0); progress-is = no-difference progress 8 (a .1 .1 .0) })
+    ]
+  where
+    rest : List Fault
+    rest = refuse 1 (misplaced sent (c .packets)) ∷ refuse 1 (not (eqb word 1536)) ∷ refuse 1 (not (eqb progress 8)) ∷ []
 
 -- what a call that answered 0 was lent
 module _ (c : WriteCall) (did : Wrote c) (z : c .answer ≡ 0) where
