@@ -33,37 +33,19 @@ use Rattle.ip_streams.specs.Streams.{Delivers, ComesBack, Ends, OnlyWhole, Refu
 use Rattle.ip_streams.proofs.OneWrite.{Wrote, nothing-to-carry, front-enough}
 use Rattle.ip_streams.proofs.OneRead.{Did, Dropped, only-whole-come, refused-leaves, others-pass}
 use Rattle.ip_streams.proofs.Words.{written-readable, written-header, written-damaged, damage-refused}
-use Rattle.ip_streams.proofs.Kept.{AllWrites, AllSteps, kept-delivers, kept-comes-back, kept-ends}
+use Rattle.ip_streams.proofs.Kept.{aWrite, aRead, aLoss, back, Keeping, AllWrites, AllSteps, kept-delivers, kept-comes-back, kept-ends}
 
 -- a call opl_ip_write(id, sent, queue, word, progress)
 abbrev writeCall : (κs : Lfts 3) → ArgsD opl-ip-write.signature κs → ResD opl-ip-write.signature κs → AtExit (endedOf 3 opl-ip-write-kinds.ps opl-ip-write-kinds.r) κs → WriteCall
-writeCall κs a r s = record {
-  id = a .0;
-  sent = a .1 .0;
-  queue = now (a .1 .1 .0);
-  word = now (a .1 .1 .1 .0);
-  progress = now (a .1 .1 .1 .1 .0);
-  answer = r;
-  leftWord = now (s .1 .1 .1 .0);
-  leftProgress = now (s .1 .1 .1 .1 .0);
-}
+writeCall κs a r s = aWrite (a .0) (a .1 .0) (now (a .1 .1 .0)) (now (a .1 .1 .1 .0)) (now (a .1 .1 .1 .1 .0)) r (now (s .1 .1 .1 .0)) (now (s .1 .1 .1 .1 .0))
 
 -- a call opl_ip_read(word, memory, packets, header)
 abbrev readCall : (κs : Lfts 4) → ArgsD opl-ip-read.signature κs → ResD opl-ip-read.signature κs → AtExit (endedOf 4 opl-ip-read-kinds.ps opl-ip-read-kinds.r) κs → ReadCall
-readCall κs a r s = record {
-  word = now (a .0);
-  held = now (a .1 .0);
-  packets = now (a .1 .1 .0);
-  header = now (a .1 .1 .1 .0);
-  answer = r;
-  leftHeld = now (s .1 .0);
-  leftPackets = now (s .1 .1 .0);
-  leftHeader = now (s .1 .1 .1 .0);
-}
+readCall κs a r s = aRead (now (a .0)) (now (a .1 .0)) (now (a .1 .1 .0)) (now (a .1 .1 .1 .0)) r (now (s .1 .0)) (now (s .1 .1 .0)) (now (s .1 .1 .1 .0))
 
 -- a call opl_ip_lost(memory)
 abbrev lostCall : (κs : Lfts 1) → ArgsD opl-ip-lost.signature κs → ResD opl-ip-lost.signature κs → AtExit (endedOf 1 opl-ip-lost-kinds.ps opl-ip-lost-kinds.r) κs → LostCall
-lostCall κs a r s = record { held = now (a .0); answer = r; leftHeld = now (s .0) }
+lostCall κs a r s = aLoss (now (a .0)) r (now (s .0))
 
 -- calls that kept the functions' promises
 pub record Writes (c : WriteCall) : Type 1 where
@@ -90,46 +72,40 @@ pub record Losing (c : LostCall) : Type 1 where
   pub kept : opl-ip-lost-reads.Post κs args result exit
   pub is : c ≡ lostCall κs args result exit
 
-wrote : (c : WriteCall) → Writes c → Wrote c
-wrote c w = subst Wrote (sym (w .is)) (w .kept)
-
-did : (a : ReadCall) → Reading a → Did a
-did a r = subst Did (sym (r .is)) (r .kept)
-
-dropped : (b : LostCall) → Losing b → Dropped b
-dropped b l = subst Dropped (sym (l .is)) (l .kept)
+kept : Keeping Writes Reading Losing
+kept = record { wrote = λ c w. back Wrote (w .is) (w .kept); did = λ a r. back Did (r .is) (r .kept); dropped = λ b l. back Dropped (l .is) (l .kept) }
 
 -- with any words of a written stream lost, what is handed out is exactly the packets all of whose words came
 pub opl-ip-delivered : (js : List (List ℕ)) (cs : List WriteCall) (ss : List Step) → AllWrites Writes Reading Losing cs → AllSteps Writes Reading Losing ss → Delivers js cs ss
-opl-ip-delivered = kept-delivers Writes Reading Losing wrote did dropped
+opl-ip-delivered = kept-delivers Writes Reading Losing kept
 
 -- with none lost, and nothing that waits any more, all of them
 pub opl-ip-back : (js : List (List ℕ)) (cs : List WriteCall) (ss : List Step) → AllWrites Writes Reading Losing cs → AllSteps Writes Reading Losing ss → ComesBack js cs ss
-opl-ip-back = kept-comes-back Writes Reading Losing wrote did dropped
+opl-ip-back = kept-comes-back Writes Reading Losing kept
 
 -- and it ends
 pub opl-ip-ends : (q : List ℕ) (cs : List WriteCall) → AllWrites Writes Reading Losing cs → Ends q cs
-opl-ip-ends = kept-ends Writes Reading Losing wrote did dropped
+opl-ip-ends = kept-ends Writes Reading Losing kept
 
 -- of one call
 pub opl-ip-read-only-whole : (a : ReadCall) → Reading a → OnlyWhole a
-opl-ip-read-only-whole a r = only-whole-come a (did a r)
+opl-ip-read-only-whole a r = only-whole-come a (kept .did a r)
 
 pub opl-ip-read-refused-leaves : (a : ReadCall) → Reading a → RefusedLeaves a
-opl-ip-read-refused-leaves a r = refused-leaves a (did a r)
+opl-ip-read-refused-leaves a r = refused-leaves a (kept .did a r)
 
 pub opl-ip-read-others-pass : (a : ReadCall) → Reading a → OthersPass a
-opl-ip-read-others-pass a r = others-pass a (did a r)
+opl-ip-read-others-pass a r = others-pass a (kept .did a r)
 
 pub opl-ip-write-nothing : (c : WriteCall) → Writes c → NothingToCarry c
-opl-ip-write-nothing c w = nothing-to-carry c (wrote c w)
+opl-ip-write-nothing c w = nothing-to-carry c (kept .wrote c w)
 
 pub opl-ip-write-front : (c d : WriteCall) → Writes c → Writes d → FrontEnough c d
-opl-ip-write-front c d w v f z = front-enough c (wrote c w) z d (wrote d v) f
+opl-ip-write-front c d w v f z = front-enough c (kept .wrote c w) z d (kept .wrote d v) f
 
 -- of a word that was written, one bit of its header is another
 pub opl-ip-damage-refused : (c : WriteCall) (a : ReadCall) → Writes c → Reading a → DamageRefused c a
-opl-ip-damage-refused c a w r = damage-refused c a (wrote c w) (did a r)
+opl-ip-damage-refused c a w r = damage-refused c a (kept .wrote c w) (kept .did a r)
 
 -- after a call opl_ip_write that answered 0
 module _ (c : WriteCall) (w : Writes c) (z : c .answer ≡ 0) where
@@ -138,11 +114,11 @@ module _ (c : WriteCall) (w : Writes c) (z : c .answer ≡ 0) where
       (t : AtExit (endedOf 2 opl-payload-read-kinds.ps opl-payload-read-kinds.r) κs)
       → now (b .0) ≡ c .leftWord → length (now (b .1 .0)) ≡ 16 → opl-payload-read-reads.Post κs b n t → (n ≡ 0) × (now (t .1 .0) ≡ headerBytes (ipHeader c))
   opl-ip-header-read κs b n t e l p =
-      agree p (into-done (now (b .0)) (now (b .1 .0)) l (read-0 (now (b .0)) (subst Readable (sym e) (written-readable c (wrote c w) z))) (headerBytes (ipHeader c))
-      (ap headerBytes (sym (ap headerOf e ∙ written-header c (wrote c w) z))))
+      agree p (into-done (now (b .0)) (now (b .1 .0)) l (read-0 (now (b .0)) (subst Readable (sym e) (written-readable c (kept .wrote c w) z))) (headerBytes (ipHeader c))
+      (ap headerBytes (sym (ap headerOf e ∙ written-header c (kept .wrote c w) z))))
 
   -- and of a word with one other bit of its header, be it of the stream type, it answers 5, and nothing is touched
   pub opl-ip-header-damaged : (κs : Lfts 2) (b : ArgsD opl-payload-read.signature κs) (n : ResD opl-payload-read.signature κs)
       (t : AtExit (endedOf 2 opl-payload-read-kinds.ps opl-payload-read-kinds.r) κs) (i : ℕ)
       → OneBit (c .leftWord) (now (b .0)) i → length (now (b .1 .0)) ≡ 16 → opl-payload-read-reads.Post κs b n t → (n ≡ 5) × (now (t .1 .0) ≡ now (b .1 .0))
-  opl-ip-header-damaged κs b n t i d l p = agree p (into-refused (now (b .0)) (now (b .1 .0)) l 5 (written-damaged c (wrote c w) z (now (b .0)) i d) (omega arith))
+  opl-ip-header-damaged κs b n t i d l p = agree p (into-refused (now (b .0)) (now (b .1 .0)) l 5 (written-damaged c (kept .wrote c w) z (now (b .0)) i d) (omega arith))
