@@ -57,7 +57,7 @@ module _ (sent : ℕ) (q : List ℕ) where
   none-wrong ready a e =
       let z : firstOf faults ≡ 0 = clear-all faults (ap not (eq-eqb (c .number) 0 (ready .0)), (ready .1, tt)) in
       let b : choose (eqb (firstOf faults) 0) at 0 ≡ a = choose-true at 0 (eq-eqb (firstOf faults) 0 z) ∙ sym e in
-      cc (z, b)
+      cc
 
   -- ---- what an answer says
   pub refusal-is : frontOf sent q .refusal ≡ firstOf faults

@@ -18,7 +18,7 @@ returns c =
 returns-2 : tie.Need-returns-2
 returns-2 c =
     let s = c .before .before .before in
-    sym (misplaced-one (s .args .queue .now) (s .pre) (search needs) (s .args .sent) (c .if2 .taken))
+    sym (misplaced-one (s .args .queue .now) (s .pre) (search needs) (s .args .sent) (omega (arith, c .if2 .taken)))
 
 length-at-requires : tie.Need-length-at-requires
 length-at-requires c κs =
@@ -32,7 +32,7 @@ returns-3 : tie.Need-returns-3
 returns-3 c =
     let o = c .before in
     let s = o .before .before .before in
-    sym (misplaced-above (s .args .queue .now) (s .pre) (search needs) (s .args .sent) (c .length-at .result) (o .if2 .left) (c .length-at .ensures .0))
+    sym (misplaced-above (s .args .queue .now) (s .pre) (search needs) (s .args .sent) (c .length-at .result) (λ z. o .if2 .left (omega (arith, z))) (c .length-at .ensures .0))
 
 pub out-of-place-spec : {M : Type 1} → statement M
 out-of-place-spec =

@@ -21,12 +21,12 @@ returns-2 c =
 returns-3 : tie.Need-returns-3
 returns-3 c =
     let a = c .before .before .before .args in
-    sym (skip (ne-eqb (a .kind) 0 (c .before .before .if1 .left)) (skip (le-ltb 2 (a .kind) (omega (arith, c .before .if2 .left))) (hit _ (eq-eqb (a .n) 0 (c .if3 .taken)))))
+    sym (skip (ne-eqb (a .kind) 0 (c .before .before .if1 .left)) (skip (le-ltb 2 (a .kind) (omega (arith, c .before .if2 .left))) (hit _ (eq-eqb (a .n) 0 (omega (arith, c .if3 .taken))))))
 
 returns-4 : tie.Need-returns-4
 returns-4 c =
     let a = c .before .before .before .args in
-    sym (skip (ne-eqb (a .kind) 0 (c .before .before .if1 .left)) (skip (le-ltb 2 (a .kind) (omega (arith, c .before .if2 .left))) (skip (ne-eqb (a .n) 0 (c .if3 .left)) refl)))
+    sym (skip (ne-eqb (a .kind) 0 (c .before .before .if1 .left)) (skip (le-ltb 2 (a .kind) (omega (arith, c .before .if2 .left))) (skip (ne-eqb (a .n) 0 (λ z. c .if3 .left (omega (arith, z)))) refl)))
 
 pub unsendable-spec : {M : Type 1} → statement M
 unsendable-spec = tie.close (tie.spec returns returns-2 returns-3 returns-4)
