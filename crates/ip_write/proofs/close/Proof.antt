@@ -7,15 +7,6 @@ use lib.ListN.{length, take, set}
 use Rattle.infoword.specs.Word.{ipWord}
 use Rattle.infoword.specs.Steps.{parted, closing}
 use Rattle.ip_write.proofs.Closes.{closes, closed-length}
--- `ip_write::close` meets its contract. Assumes nothing.
-use Prim.Native.Nat.{ℕ, _+_, _*_, _/_, _%_}
-use mathlib.Core.Path.{_≡_, sym, ap, _∙_}
-use mathlib.Core.List.{List}
-use native.Mathlib.Omega.{arith}
-use lib.ListN.{length, take, set}
-use Rattle.infoword.specs.Word.{ipWord}
-use Rattle.infoword.specs.Steps.{parted, closing}
-use Rattle.ip_write.proofs.Closes.{closes, closed-length}
 use borrow.Author.Needs.{needs}
 use Rattle.ip_write.proofs.close.Statement.{statement}
 use Rattle.ip_write.proofs.close.Tie as tie

@@ -2,10 +2,6 @@
 use native.Mathlib.Omega.{arith}
 use Rattle.wide.proofs.Stores.{put-four}
 use Rattle.ip_write.proofs.Closes.{eight}
--- `ip_write::put_progress` meets its contract. Assumes nothing.
-use native.Mathlib.Omega.{arith}
-use Rattle.wide.proofs.Stores.{put-four}
-use Rattle.ip_write.proofs.Closes.{eight}
 use borrow.Author.Needs.{needs}
 use Rattle.ip_write.proofs.put_progress.Statement.{statement}
 use Rattle.ip_write.proofs.put_progress.Tie as tie
