@@ -19,13 +19,13 @@ use Rattle.ip_queue.proofs.First.{Partly}
 use Rattle.ip_write.specs.Steps.{fillAt, Laid, Ended, Carries}
 use Rattle.ip_write.proofs.Laying.{copied-take, copied-last}
 
--- ---- the word that begins with what is left of a packet; b is the place of that in the queue, j how much of it is copied
+-- ---- the word that begins with what is left of a packet; b is the place of that in the queue
 module _ (q : List ℕ) (sent : ℕ) (k : Partly q sent) where
   -- more is left than a word holds
-  pub first-runs : (m m' : List ℕ) (b j : ℕ) → length m ≡ 1504 → 1504 < lengthAt q 0 + 2 - sent → b ≡ sent + 2 → j ≡ 1504
-      → m' ≡ copied (take j (drop b q)) m 0 → Carries sent (queueIn 0 q .packets) m' 0 (sent + 1504)
+  pub first-runs : (m m' : List ℕ) (b : ℕ) → length m ≡ 1504 → 1504 < lengthAt q 0 + 2 - sent → b ≡ sent + 2
+      → m' ≡ copied (take 1504 (drop b q)) m 0 → Carries sent (queueIn 0 q .packets) m' 0 (sent + 1504)
   unfolding queue
-  first-runs m m' b j room r hb hj e =
+  first-runs m m' b room r hb e =
       let c : wordFill sent (queueIn 0 q .packets) ≡ cut 1504 sent (packetAt q 0) =
       ap (wordFill sent) (k .packets)
       ∙ fill-runs 1504 sent (packetAt q 0) (queueAt q (0 + 4 + lengthAt q 0) .packets) (may-begin 1504 sent (omega arith)) (omega (arith, k .rest-length)) in
@@ -35,24 +35,24 @@ module _ (q : List ℕ) (sent : ℕ) (k : Partly q sent) where
       sym (take-take 1504 (lengthAt q 0 + 2 - sent) (drop (sent + 2) q) (omega arith)) ∙ ap (take 1504) (sym (k .rest-is)) in
       record {
         bytes =
-            e ∙ ap₂ (λ (y z : ℕ). copied (take y (drop z q)) m 0) hj hb ∙ copied-last x m 0 (omega arith) (omega arith) ∙ t
+            e ∙ ap (λ (z : ℕ). copied (take 1504 (drop z q)) m 0) hb ∙ copied-last x m 0 (omega arith) (omega arith) ∙ t
             ∙ sym (ap (λ (f : Filled). f .bytes) c);
         done = sym (ap (λ (f : Filled). length (queue (take (f .done) (queueIn 0 q .packets)))) c);
         rest = sym (ap (λ (f : Filled). f .sent) c);
       }
 
   -- all that is left fits, and the next packet follows
-  module _ (m m' : List ℕ) (b j left end : ℕ) (room : length m ≡ 1504) (is : left ≡ lengthAt q 0 + 2 - sent) (fits : left ≤ 1504)
-      (hb : b ≡ sent + 2) (hj : j ≡ left) (he : end ≡ b + left) (e : m' ≡ copied (take j (drop b q)) m 0) where
+  module _ (m m' : List ℕ) (b left end : ℕ) (room : length m ≡ 1504) (is : left ≡ lengthAt q 0 + 2 - sent) (fits : left ≤ 1504)
+      (hb : b ≡ sent + 2) (he : end ≡ b + left) (e : m' ≡ copied (take left (drop b q)) m 0) where
     is-rest : m' ≡ copied (rest sent (packetAt q 0)) m 0
-    is-rest = e ∙ ap₂ (λ (y z : ℕ). copied (take y (drop z q)) m 0) (hj ∙ is) hb ∙ ap (λ (l : List ℕ). copied l m 0) (sym (k .rest-is))
+    is-rest = e ∙ ap₂ (λ (y z : ℕ). copied (take y (drop z q)) m 0) is hb ∙ ap (λ (l : List ℕ). copied l m 0) (sym (k .rest-is))
 
     place : end ≡ 0 + 4 + lengthAt q 0
     place = omega (arith, k .low, k .high)
 
     pub first-laid : Laid q m' left end
     first-laid = record {
-      size = ap length e ∙ copied-length (take j (drop b q)) m 0 ∙ room;
+      size = ap length e ∙ copied-length (take left (drop b q)) m 0 ∙ room;
       at-most = fits;
       from-most = omega (arith, place, k .ends);
       small = omega (arith, place, k .most);

@@ -7,10 +7,8 @@ use native.Mathlib.Decide.{decLt}
 use native.Mathlib.Nat.{zero-add}
 use native.Mathlib.Numerals.{add-one}
 use native.Mathlib.Omega.{arith}
-use lib.Dec.{eqb}
-use lib.ListN.{length, getD, take, drop, set, replicate, length-append, drop-of-length-le}
+use lib.ListN.{length, take, drop, set, replicate, length-append, drop-of-length-le}
 use lib.Seq.{sets-eq, take-all, take-at, drop-at, drop-drop, take-take, take-append-add, length-take-le}
-use Rattle.ground.specs.Choice.{choose}
 use Rattle.bits.specs.Lists.{bits, pack}
 use Rattle.bits.proofs.Numbers.{bits-join, pack-16}
 use Rattle.bytes.specs.Runs.{copied, filledFrom}
@@ -21,7 +19,7 @@ use Rattle.ip.specs.Memory.{Queue, queue}
 use Rattle.ip.proofs.Walk.{header-length, whole-length}
 use Rattle.ip.proofs.Fill.{may-begin, fill-ends, fill-runs, fill-waits, cut}
 use Rattle.ip_queue.specs.Places.{queueAt, lengthAt, packetAt}
-use Rattle.ip_write.specs.Steps.{headerNumber, Waits, fillAt, Laid, Same, Ended}
+use Rattle.ip_write.specs.Steps.{headerNumber, begunWith, Waits, fillAt, Laid, Same, Ended}
 use Rattle.ip_queue.proofs.Places.{Waiting, waiting, place-end, queue-length}
 
 -- ---- the header of a packet is one number
@@ -95,27 +93,18 @@ module _ (q : List ℕ) (from : ℕ) (waits : Waits q from) where
       ∙ ap (λ (x : ℕ). copied (x / 256 % 256 ∷ x % 256 ∷ []) m at) i
       ∙ ap (λ (l : List ℕ). copied l m at) (sym (header-is p (w .fit)))
 
-  -- its header and its first k bytes
-  pub begun-put : (m m' m'' : List ℕ) (at k j : ℕ) → k ≤ lengthAt q from → j ≡ k → at + 2 + k ≤ length m → m' ≡ copied (header (packetAt q from)) m at
-      → m'' ≡ copied (take j (drop (from + 4) q)) m' (at + 2) → m'' ≡ copied (header (packetAt q from) ++ take k (packetAt q from .bytes)) m at
+  -- its header and its first n bytes
+  pub packet-put : (m m' m'' : List ℕ) (at n : ℕ) → n ≤ lengthAt q from → at + 2 + n ≤ length m → m' ≡ copied (header (packetAt q from)) m at
+      → m'' ≡ copied (take n (drop (from + 4) q)) m' (at + 2) → m'' ≡ copied (begunWith n (packetAt q from)) m at
   unfolding w
-  begun-put m m' m'' at k j h i r e e' =
-      let hl : length (header (packetAt q from)) ≡ 2 = header-length (packetAt q from) (w .fit) in
-      let d : take j (drop (from + 4) q) ≡ take k (packetAt q from .bytes) =
-      ap (λ (x : ℕ). take x (drop (from + 4) q)) i ∙ sym (take-take k (lengthAt q from) (drop (from + 4) q) h) in
-      let s : at + 2 ≡ at + length (header (packetAt q from)) = omega arith in
-      let y : length (take k (packetAt q from .bytes)) ≡ k = length-take-le k (packetAt q from .bytes) (omega (arith, w .long)) in
-      e' ∙ ap₂ (λ (l : List ℕ) (n : List ℕ). copied l n (at + 2)) d e
-      ∙ ap (copied (take k (packetAt q from .bytes)) (copied (header (packetAt q from)) m at)) s
-      ∙ copied-both (header (packetAt q from)) (take k (packetAt q from .bytes)) m at (omega arith)
-
-  -- all of it
-  pub whole-put : (m m' m'' : List ℕ) (at n j : ℕ) → n ≡ lengthAt q from → j ≡ n → at + 2 + n ≤ length m → m' ≡ copied (header (packetAt q from)) m at
-      → m'' ≡ copied (take j (drop (from + 4) q)) m' (at + 2) → m'' ≡ copied (whole (packetAt q from)) m at
-  unfolding w
-  whole-put m m' m'' at n j i k r e e' =
-      begun-put m m' m'' at n j (omega arith) k r e e'
-      ∙ ap (λ (l : List ℕ). copied (header (packetAt q from) ++ l) m at) (take-all n (packetAt q from .bytes) (omega (arith, w .long)))
+  packet-put m m' m'' at n h r e e' =
+      let p : Packet = packetAt q from in
+      let hl : length (header p) ≡ 2 = header-length p (w .fit) in
+      let d : take n (drop (from + 4) q) ≡ take n (p .bytes) = sym (take-take n (lengthAt q from) (drop (from + 4) q) h) in
+      let s : at + 2 ≡ at + length (header p) = omega arith in
+      let y : length (take n (p .bytes)) ≡ n = length-take-le n (p .bytes) (omega (arith, w .long)) in
+      e' ∙ ap₂ (λ (l : List ℕ) (k : List ℕ). copied l k (at + 2)) d e ∙ ap (copied (take n (p .bytes)) (copied (header p) m at)) s
+      ∙ copied-both (header p) (take n (p .bytes)) m at (omega arith)
 
 -- ---- from place to place
 
@@ -193,20 +182,23 @@ module _ (q m : List ℕ) (at from : ℕ) (l : Laid q m at from) (h : from < len
         sent = sym (ap (λ (f : Filled). f .sent) (ends r)) ∙ s .sent;
       }
 
-  pub packet-more : (m₀ : List ℕ) (at₀ from₀ : ℕ) (m' : List ℕ) (n : ℕ) → n ≡ lengthAt q from → n + 2 ≤ 1504 - at → m' ≡ copied (whole (packetAt q from)) m at
+  pub packet-more : (m₀ : List ℕ) (at₀ from₀ : ℕ) (m' : List ℕ) (n : ℕ) → n ≡ lengthAt q from → n + 2 ≤ 1504 - at → m' ≡ copied (begunWith n (packetAt q from)) m at
       → Same q m₀ at₀ from₀ m at from → Laid q m' (at + (n + 2)) (from + (n + 4)) × Same q m₀ at₀ from₀ m' (at + (n + 2)) (from + (n + 4))
+  unfolding next
   packet-more m₀ at₀ from₀ m' n i r e s =
       let k : lengthAt q from + 2 ≤ 1504 - at = omega arith in
+      let all : m' ≡ copied (whole (packetAt q from)) m at =
+      e ∙ ap (λ (l : List ℕ). copied (header (packetAt q from) ++ l) m at) (take-all n (packetAt q from .bytes) (omega (arith, next .long))) in
       subst (λ (x : ℕ). Laid q m' (at + (x + 2)) (from + (x + 4)) × Same q m₀ at₀ from₀ m' (at + (x + 2)) (from + (x + 4))) (sym i)
-      (laid-more m' k e, same-more m₀ at₀ from₀ m' k e s)
+      (laid-more m' k all, same-more m₀ at₀ from₀ m' k all s)
 
   -- the end: a packet that runs on
   pub begun-last : (m' : List ℕ) → 1504 - at < lengthAt q from + 2 → at ≤ 1502
-      → m' ≡ copied (header (packetAt q from) ++ take (1502 - at) (packetAt q from .bytes)) m at → Ended q m at from m' from (1504 - at)
+      → m' ≡ copied (begunWith (1502 - at) (packetAt q from)) m at → Ended q m at from m' from (1504 - at)
   unfolding next
   begun-last m' r k e =
       let p : Packet = packetAt q from in
-      let x : List ℕ = header p ++ take (1502 - at) (p .bytes) in
+      let x : List ℕ = begunWith (1502 - at) p in
       let hl : length (header p) ≡ 2 = header-length p (next .fit) in
       let len : length x ≡ 1504 - at =
       length-append (header p) (take (1502 - at) (p .bytes)) ∙ omega (arith, length-take-le (1502 - at) (p .bytes) (omega (arith, next .long))) in

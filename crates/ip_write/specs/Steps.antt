@@ -7,7 +7,7 @@ use mathlib.Core.List.{List, [], _∷_, _++_}
 use lib.Dec.{eqb}
 use lib.ListN.{length, take}
 use Rattle.ground.specs.Choice.{Fault, refuse}
-use Rattle.ip.specs.Packet.{Packet}
+use Rattle.ip.specs.Packet.{Packet, header}
 use Rattle.ip.specs.Write.{Filled, fill, wordFill}
 use Rattle.ip.specs.Memory.{queue}
 use Rattle.ip_queue.specs.Places.{queueAt, lengthAt}
@@ -19,6 +19,10 @@ callFaults n word progress = refuse n (not (eqb n 0)) ∷ refuse 1 (not (eqb wor
 -- a packet's header as one number: IP_Packet_Type, IP_Packet_Error, IP_Packet_Length, RFU 0 (table 6)
 abbrev pub headerNumber : ℕ → ℕ → ℕ → ℕ
 headerNumber kind error n = kind * 16384 + error * 8192 + n * 2
+
+-- a packet in the stream with the first n bytes of its data
+abbrev pub begunWith : ℕ → Packet → List ℕ
+begunWith n p = header p ++ take n (p .bytes)
 
 -- the packet at a place is there, and so are all that follow
 abbrev pub Waits : List ℕ → ℕ → Type 0

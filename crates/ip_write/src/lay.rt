@@ -2,17 +2,17 @@
 // the next word, or padding.
 use ip_queue::HEAD;
 ghost use mathlib.Core.Path.{_≡_};
-ghost use mathlib.Core.List.{_++_};
-ghost use Prim.Native.Nat.{_+_, _-_, _<_, _≤_};
+ghost use mathlib.Core.Bool.{true, false};
+ghost use Prim.Native.Nat.{_+_, _<_, _≤_};
 ghost use lib.Dec.{eqb};
-ghost use lib.ListN.{length, take};
+ghost use lib.ListN.{length, take, drop};
 ghost use Rattle.ground.specs.Choice.{choose};
 ghost use Rattle.bytes.specs.Runs.{copied};
-ghost use Rattle.ip.specs.Packet.{header, whole};
+ghost use Rattle.ip.specs.Packet.{header};
 ghost use Rattle.ip.specs.Memory.{queueIn};
 ghost use Rattle.ip_queue.specs.Places.{lengthAt, packetAt};
 ghost use Rattle.ip_queue.specs.Looking.{Ready};
-ghost use Rattle.ip_write.specs.Steps.{headerNumber, Waits, Laid, Same, NoneFits, Ended, Carries};
+ghost use Rattle.ip_write.specs.Steps.{headerNumber, begunWith, Waits, Laid, Same, NoneFits, Ended, Carries};
 
 // The payload of an IP stream's word, in bytes (clause 4.3.4).
 pub const PAYLOAD: usize = 1504;
@@ -69,15 +69,21 @@ fn put_header(queue: &[u8], from: usize, payload: &mut [u8], at: usize)
     payload[at + 1] = (v % 256) as u8;
 }
 
-// A packet of the queue whole, header and n bytes of data.
-fn put_whole(queue: &[u8], from: usize, payload: &mut [u8], at: usize, n: usize)
-    requires { ⌜ Waits (now queue) from × (n ≡ lengthAt (now queue) from) × (at + 2 + n ≤ length (now payload)) ⌝ }
-    ensures { λ _. ⌜ now (payload .exit) ≡ copied (whole (packetAt (now (queue .entry)) from)) (now (payload .entry)) at ⌝ }
+// n bytes of the queue from a place on.
+fn put_part(queue: &[u8], from: usize, n: usize, payload: &mut [u8], at: usize)
+    requires { ⌜ from + n ≤ length (now queue) ⌝ }
+    ensures { λ _. ⌜ now (payload .exit) ≡ copied (take n (drop from (now (queue .entry)))) (now (payload .entry)) at ⌝ }
+{
+    bytes::copy(&queue[from..from + n], payload, at);
+}
+
+// A packet of the queue: its header, and the first n bytes of its data, all of them or as many as fit.
+fn put_packet(queue: &[u8], from: usize, n: usize, payload: &mut [u8], at: usize)
+    requires { ⌜ Waits (now queue) from × (n ≤ lengthAt (now queue) from) × (at + 2 + n ≤ length (now payload)) ⌝ }
+    ensures { λ _. ⌜ now (payload .exit) ≡ copied (begunWith n (packetAt (now (queue .entry)) from)) (now (payload .entry)) at ⌝ }
 {
     put_header(queue, from, payload, at);
-    let begin = from + HEAD;
-    let end = begin + n;
-    bytes::copy(&queue[begin..end], payload, at + HEADER);
+    put_part(queue, from + HEAD, n, payload, at + HEADER);
 }
 
 // Packets of the queue while they fit as a whole.
@@ -92,56 +98,43 @@ fn put_packets(queue: &[u8], payload: &mut [u8], place: Place) -> Place
         if PAYLOAD - at < n + HEADER {
             return Place { at, from };
         }
-        put_whole(queue, from, payload, at, n);
+        put_packet(queue, from, n, payload, at);
         at += n + HEADER;
         from += n + HEAD;
     }
     Place { at, from }
 }
 
-// The packet that runs on: its header, and as much of its data as fits; at 1,502 none of it.
-fn put_begun(queue: &[u8], from: usize, payload: &mut [u8], at: usize)
-    requires { ⌜ Waits (now queue) from × (length (now payload) ≡ 1504) × (at ≤ 1502) × (1504 < at + 2 + lengthAt (now queue) from) ⌝ }
-    ensures { λ _. ⌜ now (payload .exit) ≡ copied (header (packetAt (now (queue .entry)) from) ++ take (1502 - at) (packetAt (now (queue .entry)) from .bytes)) (now (payload .entry)) at ⌝ }
+// Whether a packet is begun behind whole packets: one waits, and its header fits.
+fn begins(at: usize, from: usize, end: usize) -> bool
+    ensures { λ r. ⌜ (r ≡ true → (from < end) × (at ≤ 1502)) × (r ≡ false → from < end → 1502 < at) ⌝ }
 {
-    put_header(queue, from, payload, at);
-    let begin = from + HEAD;
-    let end = begin + (PAYLOAD - HEADER - at);
-    bytes::copy(&queue[begin..end], payload, at + HEADER);
-}
-
-// Nothing more goes into the payload: from a place on it is FF, the header FF FF and the padding behind it.
-fn put_padding(queue: &[u8], payload: &mut [u8], place: Place) -> Progress
-    requires { ⌜ Laid (now queue) (now payload) (place .at) (place .from) × (place .from < length (now queue) → 1502 < place .at) ⌝ }
-    ensures { λ r. ⌜ Ended (now (queue .entry)) (now (payload .entry)) (place .at) (place .from) (now (payload .exit)) (r .done) (r .sent) ⌝ }
-{
-    let at = place.at;
-    let from = place.from;
-    bytes::fill(payload, at, 0xFF);
-    Progress {
-        done: from as u32,
-        sent: 0,
+    if end <= from {
+        return false;
     }
+    // a header is never split: at 1,503 it waits for the next word
+    at <= PAYLOAD - HEADER
 }
 
-// What is left of the payload behind whole packets: a packet is begun where its header fits, or all of it is FF.
+// What is left of the payload behind whole packets: a packet is begun, at 1,502 with none of its data; or all of it is FF, the header FF FF
+// and the padding behind it.
 fn put_end(queue: &[u8], payload: &mut [u8], place: Place) -> Progress
     requires { ⌜ Laid (now queue) (now payload) (place .at) (place .from) × NoneFits (now queue) (place .at) (place .from) ⌝ }
     ensures { λ r. ⌜ Ended (now (queue .entry)) (now (payload .entry)) (place .at) (place .from) (now (payload .exit)) (r .done) (r .sent) ⌝ }
 {
     let at = place.at;
     let from = place.from;
-    if queue.len() <= from {
-        return put_padding(queue, payload, place);
+    if begins(at, from, queue.len()) {
+        put_packet(queue, from, PAYLOAD - HEADER - at, payload, at);
+        return Progress {
+            done: from as u32,
+            sent: (PAYLOAD - at) as u32,
+        };
     }
-    // a header is never split: at 1,503 it waits for the next word
-    if PAYLOAD - HEADER < at {
-        return put_padding(queue, payload, place);
-    }
-    put_begun(queue, from, payload, at);
+    bytes::fill(payload, at, 0xFF);
     Progress {
         done: from as u32,
-        sent: (PAYLOAD - at) as u32,
+        sent: 0,
     }
 }
 
@@ -162,24 +155,23 @@ pub fn fill(queue: &[u8], sent: u32, payload: &mut [u8]) -> Progress
     if sent == 0 {
         return put_rest(queue, payload, Place { at: 0, from: 0 });
     }
-    // the first packet's data from where it was cut, and how much of it is still to come: in both its header is counted
+    // `sent` counts the header: from here on the first packet's data is still to come, and this much of it
     let begin = sent as usize + HEAD - HEADER;
     let left = length_at(queue, 0) + HEADER - sent as usize;
     if PAYLOAD < left {
-        bytes::copy(&queue[begin..begin + PAYLOAD], payload, 0);
+        put_part(queue, begin, PAYLOAD, payload, 0);
         return Progress {
             done: 0,
             sent: sent + PAYLOAD as u32,
         };
     }
-    let end = begin + left;
-    bytes::copy(&queue[begin..end], payload, 0);
+    put_part(queue, begin, left, payload, 0);
     put_rest(
         queue,
         payload,
         Place {
             at: left,
-            from: end,
+            from: begin + left,
         },
     )
 }

@@ -10,8 +10,8 @@ use Rattle.ip_write.proofs.lay.fill.Statement.{statement}
 use Rattle.ip_write.proofs.lay.fill.Tie as tie
 use Rattle.ip_write.proofs.lay.fill.Reads as reads
 use Rattle.ip_write.proofs.lay.fill.Lts as lts
-use Rattle.bytes.proofs.copy.Reads as copy-reads
 use Rattle.ip_write.proofs.lay.length_at.Reads as length-at-reads
+use Rattle.ip_write.proofs.lay.put_part.Reads as put-part-reads
 use Rattle.ip_write.proofs.lay.put_rest.Reads as put-rest-reads
 
 put-rest-requires : tie.Need-put-rest-requires
@@ -53,29 +53,17 @@ sub-left c = omega (arith, opened (c .before) .high, c .length-at .ensures .0)
 left : (c : tie.After-length-at) → let a = c .before .before .before .before .args in c .length-at .result + 2 - a .sent ≡ lengthAt (a .queue .now) 0 + 2 - a .sent
 left c = omega (arith, c .length-at .ensures .0)
 
-add-copy : tie.Need-add-copy
-add-copy c = search needs
-
-sub-copy : tie.Need-sub-copy
-sub-copy c = search needs
-
-part-copy-start : tie.Need-part-copy-start
-part-copy-start c = search needs
-
-part-copy-end : tie.Need-part-copy-end
-part-copy-end c =
-    let n = c .before in
+put-part-requires : tie.Need-put-part-requires
+put-part-requires c κs =
+    let n = c .before .before in
     let k = opened (n .before) in
-    omega (arith, k .ends, k .low, k .high, n .length-at .ensures .0, c .if2 .taken)
+    omega (arith, k .ends, k .low, k .high, n .length-at .ensures .0, c .before .if2 .taken)
 
-copy-requires : tie.Need-copy-requires
-copy-requires c κs = search needs
+cast-t16 : tie.Need-cast-t16
+cast-t16 c = search needs
 
-cast-t22 : tie.Need-cast-t22
-cast-t22 c = search needs
-
-add-t23 : tie.Need-add-t23
-add-t23 c = search needs
+add-t17 : tie.Need-add-t17
+add-t17 c = search needs
 
 same-length-2 : tie.Need-same-length-2
 same-length-2 c = search needs
@@ -83,41 +71,31 @@ same-length-2 c = search needs
 returns-2 : tie.Need-returns-2
 returns-2 c =
     let y = c .before .before in
-    let i = y .before .before .before in
+    let i = y .before .before in
     let n = i .before in
     let s = n .before .before .before .before in
-    let b = s .args .sent + 4 - 2 in
-    first-runs (s .args .queue .now) (s .args .sent) (opened (n .before)) (s .args .payload .now) (y .copy .last .1 .0) b (b + 1504 - b)
-    (s .pre .1) (omega (arith, left n, i .if2 .taken)) (omega arith) (omega arith) (y .copy .ensures)
+    first-runs (s .args .queue .now) (s .args .sent) (opened (n .before)) (s .args .payload .now) (y .put-part .last .1 .1 .1 .0) (s .args .sent + 4 - 2)
+    (s .pre .1) (omega (arith, left n, i .if2 .taken)) (omega arith) (y .put-part .ensures)
 
-add-end : tie.Need-add-end
-add-end c = search needs
-
-sub-copy-2 : tie.Need-sub-copy-2
-sub-copy-2 c = search needs
-
-part-copy-start-2 : tie.Need-part-copy-start-2
-part-copy-start-2 c = search needs
-
-part-copy-end-2 : tie.Need-part-copy-end-2
-part-copy-end-2 c =
-    let n = c .before in
+put-part-requires-2 : tie.Need-put-part-requires-2
+put-part-requires-2 c κs =
+    let n = c .before .before in
     let k = opened (n .before) in
     omega (arith, k .ends, k .low, k .high, n .length-at .ensures .0)
 
-copy-requires-2 : tie.Need-copy-requires-2
-copy-requires-2 c κs = search needs
+add-t12 : tie.Need-add-t12
+add-t12 c = search needs
 
 put-rest-requires-2 : tie.Need-put-rest-requires-2
 put-rest-requires-2 c κs =
     let y = c .before .before .before in
-    let i = y .before .before .before in
+    let i = y .before .before in
     let n = i .before in
     let s = n .before .before .before .before in
     let b = s .args .sent + 4 - 2 in
     let l = n .length-at .result + 2 - s .args .sent in
-    first-laid (s .args .queue .now) (s .args .sent) (opened (n .before)) (s .args .payload .now) (y .copy2 .last .1 .0) b (b + l - b) l (b + l)
-    (s .pre .1) (left n) (omega (arith, i .if2 .left)) (omega arith) (omega arith) refl (y .copy2 .ensures)
+    first-laid (s .args .queue .now) (s .args .sent) (opened (n .before)) (s .args .payload .now) (y .put-part2 .last .1 .1 .1 .0) b l (b + l)
+    (s .pre .1) (left n) (omega (arith, i .if2 .left)) (omega arith) refl (y .put-part2 .ensures)
 
 same-length-3 : tie.Need-same-length-3
 same-length-3 c = search needs
@@ -126,13 +104,13 @@ returns-3 : tie.Need-returns-3
 returns-3 c =
     let r = c .before .before in
     let y = r .before .before .before .before in
-    let i = y .before .before .before in
+    let i = y .before .before in
     let n = i .before in
     let s = n .before .before .before .before in
     let b = s .args .sent + 4 - 2 in
     let l = n .length-at .result + 2 - s .args .sent in
-    first-carries (s .args .queue .now) (s .args .sent) (opened (n .before)) (s .args .payload .now) (y .copy2 .last .1 .0) b (b + l - b) l (b + l)
-    (s .pre .1) (left n) (omega (arith, i .if2 .left)) (omega arith) (omega arith) refl (y .copy2 .ensures)
+    first-carries (s .args .queue .now) (s .args .sent) (opened (n .before)) (s .args .payload .now) (y .put-part2 .last .1 .1 .1 .0) b l (b + l)
+    (s .pre .1) (left n) (omega (arith, i .if2 .left)) (omega arith) refl (y .put-part2 .ensures)
     (r .put-rest2 .last .1 .0) (r .put-rest2 .result .done) (r .put-rest2 .result .sent) (r .put-rest2 .ensures)
 
 pub fill-spec : {M : Type 1} → statement M
@@ -147,20 +125,13 @@ fill-spec =
     length-at-requires
     add-left
     sub-left
-    add-copy
-    sub-copy
-    part-copy-start
-    part-copy-end
-    copy-requires
-    cast-t22
-    add-t23
+    put-part-requires
+    cast-t16
+    add-t17
     same-length-2
     returns-2
-    add-end
-    sub-copy-2
-    part-copy-start-2
-    part-copy-end-2
-    copy-requires-2
+    put-part-requires-2
+    add-t12
     put-rest-requires-2
     same-length-3
     returns-3)

@@ -11,7 +11,7 @@ use Rattle.ip_write.proofs.lay.put_packets.Statement.{statement}
 use Rattle.ip_write.proofs.lay.put_packets.Tie as tie
 use Rattle.ip_write.proofs.lay.put_packets.Reads as reads
 use Rattle.ip_write.proofs.lay.put_packets.Lts as lts
-use Rattle.ip_write.proofs.lay.put_whole.Reads as put-whole-reads
+use Rattle.ip_write.proofs.lay.put_packet.Reads as put-packet-reads
 use Rattle.ip_write.proofs.lay.length_at.Reads as length-at-reads
 
 abbrev Inv-loop : tie.InvT-loop
@@ -46,11 +46,11 @@ returns c =
     let l = c .before .before .before in
     (l .loop .inv .0, l .loop .inv .1, λ h. omega (arith, c .if1 .taken, c .before .length-at .ensures .0))
 
-put-whole-requires : tie.Need-put-whole-requires Inv-loop μ-loop
-put-whole-requires c κs =
+put-packet-requires : tie.Need-put-packet-requires Inv-loop μ-loop
+put-packet-requires c κs =
     let n = c .before .before in
     let l = n .before .before in
-    ((l .loop .inv .0 .clean, search needs), n .length-at .ensures .0, omega (arith, c .before .if1 .left, l .loop .inv .0 .size, l .loop .inv .0 .at-most))
+    ((l .loop .inv .0 .clean, search needs), omega (arith, n .length-at .ensures .0), omega (arith, c .before .if1 .left, l .loop .inv .0 .size, l .loop .inv .0 .at-most))
 
 add-at : tie.Need-add-at Inv-loop μ-loop
 add-at c = search needs
@@ -79,8 +79,8 @@ loop-again c =
     let l = n .before .before in
     let s = l .before .before .before in
     packet-more (s .args .queue .now) (l .loop .payload) (l .loop .at) (l .loop .from) (l .loop .inv .0) (omega (arith, n .before .loop-test))
-    (s .args .payload .now) (s .args .place .at) (s .args .place .from) (w .put-whole .last .1 .1 .0) (n .length-at .result) (n .length-at .ensures .0)
-    (omega (arith, i .if1 .left)) (w .put-whole .ensures) (l .loop .inv .1)
+    (s .args .payload .now) (s .args .place .at) (s .args .place .from) (w .put-packet .last .1 .1 .1 .0) (n .length-at .result) (n .length-at .ensures .0)
+    (omega (arith, i .if1 .left)) (w .put-packet .ensures) (l .loop .inv .1)
 
 same-length-2 : tie.Need-same-length-2 Inv-loop μ-loop
 same-length-2 c = c .before .loop .inv .0 .size ∙ sym (c .before .before .before .before .pre .size)
@@ -102,7 +102,7 @@ put-packets-spec =
     add-if1
     same-length
     returns
-    put-whole-requires
+    put-packet-requires
     add-at
     add-at-2
     add-from
