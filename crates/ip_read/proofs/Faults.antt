@@ -13,7 +13,9 @@ use Rattle.ground.proofs.Choice.{no-difference, AllClear, first-clear, first-fo
 use Rattle.infoword.specs.Suffix.{kindOf}
 use Rattle.fields.specs.Report.{readFaults, readRefusal}
 use Rattle.fields.proofs.Faults.{Readable, read-0, readable}
-use Rattle.ip_read.specs.Reading.{gotOf, ipFaults}
+use Rattle.ip_look.specs.Looking.{gotOf}
+use Rattle.ip_read.specs.Reading.{ipFaults}
+use Rattle.ip_read.specs.Steps.{packetsRefusal}
 
 -- faults that are looked for one list after the other
 pub first-behind : (l m : List Fault) → AllClear l → firstOf (l ++ m) ≡ firstOf m
@@ -83,12 +85,14 @@ module _ (w m : List ℕ) (room header : ℕ) where
           unfolding readRefusal
           past-4 = past-3 ∙ first-behind (readFaults w) last (all-clear (readFaults w) tt (sym ok))
 
-          -- 19
-          pub packets-wrong : kindOf w ≡ 3 → gotOf w m .refused ≡ true → 19 ≡ firstOf faults
-          packets-wrong k r = sym (past-4 ∙ first-found (refuse 19 (both (eqb (kindOf w) 3) (gotOf w m .refused))) [] (ap₂ both (eq-eqb (kindOf w) 3 k) r))
+          -- its packets' refusal: both lengths are right here
+          pub packets-wrong : (n : ℕ) → n ≡ packetsRefusal w m → n ≡ firstOf faults
+          packets-wrong n e =
+              e ∙ ap₂ (λ (a b : Bool). choose {A = ℕ} (both (eqb (kindOf w) 3) (both a (both b (gotOf w m .refused)))) 19 0) (eq-eqb (length w) 1536 (readable w (sym ok) .word-is)) (eq-eqb (length m) 4104 len)
+              ∙ sym past-4
 
           -- nothing
-          pub none-wrong : both (eqb (kindOf w) 3) (gotOf w m .refused) ≡ false → 0 ≡ firstOf faults
+          none-wrong : both (eqb (kindOf w) 3) (gotOf w m .refused) ≡ false → 0 ≡ firstOf faults
           none-wrong r = sym (past-4 ∙ first-clear (refuse 19 (both (eqb (kindOf w) 3) (gotOf w m .refused))) [] r)
 
   pub takes : Taken w m room header → firstOf faults ≡ 0

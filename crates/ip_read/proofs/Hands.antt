@@ -9,12 +9,14 @@ use lib.ListN.{length, getD, take, drop, length-append, length-drop}
 use lib.Seq.{length-take-le}
 use Rattle.bytes.specs.Runs.{copied}
 use Rattle.bytes.proofs.Runs.{copied-length}
-use Rattle.ip.specs.Packet.{Packet, kindIn, errorIn, stuffing}
+use Rattle.ip.specs.Packet.{Packet, lengthIn, stuffing}
 use Rattle.ip.specs.Read.{none, Got, gives, first, room}
 use Rattle.ip.specs.Memory.{queued, queue, openBytes}
-use Rattle.ip_read.specs.declared.heads.Head.{Head}
-use Rattle.ip_read.specs.Steps.{Shows, fourOf, packetOf, walkFrom, begunAt, HandedOut}
-use Rattle.ip_read.proofs.Walks.{only-after, end-packets, end-after, padding-after, packet-ends, packet-runs, runs-nothing, nothing-runs}
+use Rattle.ip_look.specs.declared.Head.{Head}
+use Rattle.ip_look.specs.Looking.{headIn}
+use Rattle.ip_look.specs.Steps.{packetOf, walkFrom}
+use Rattle.ip_look.proofs.Walks.{only-after, end-packets, end-after, padding-after, packet-ends, packet-runs, runs-nothing, nothing-runs}
+use Rattle.ip_read.specs.Steps.{fourOf, begunAt, HandedOut}
 use Rattle.ip_read.proofs.Copies.{copied-behind, nothing-copied}
 
 -- the queue's bytes are the room that its packets take
@@ -64,21 +66,22 @@ pub record Step (l : List ℕ) (from start : ℕ) (m0 : List ℕ) (at out : ℕ)
   pub fits : start + length (queue (walkFrom from l .packets)) ≤ length m0
   pub payload-is : length l ≡ 1504
   pub place : at ≤ 1502
-  pub head : Shows (getD l at 0) (getD l (at + 1) 0) d
+  pub head : d ≡ headIn (getD l at 0) (getD l (at + 1) 0)
 
 module _ {l : List ℕ} {from start : ℕ} {m0 : List ℕ} {at out : ℕ} {m : List ℕ} {d : Head} (c : Step l from start m0 at out m d) where
   abbrev h : Handing l from start m0 at out m
   h = c .so-far
 
-  abbrev s : Shows (getD l at 0) (getD l (at + 1) 0) d
-  s = c .head
+  size : d .length ≡ lengthIn (getD l at 0) (getD l (at + 1) 0)
+  unfolding headIn
+  size = ap (λ (x : Head). x .length) (c .head)
 
   in-word : at + 1 < length l
   in-word = omega (arith, c .place, c .payload-is)
 
   -- the length passes the end
   pub hand-runs : length l < at + 2 + d .length → HandedOut l from start m0 m (record { at = at; out = out })
-  hand-runs k = all-out l from start m0 at out m h (runs-nothing l at in-word (h .accepted) (omega (arith, s .size)))
+  hand-runs k = all-out l from start m0 at out m h (runs-nothing l at in-word (h .accepted) (omega (arith, size)))
 
   -- the packet ends
   module _ (k : at + 2 + d .length ≤ length l) where
@@ -92,10 +95,10 @@ module _ {l : List ℕ} {from start : ℕ} {m0 : List ℕ} {at out : ℕ} {m : L
     ps = walkFrom (at + 2 + d .length) l .packets
 
     step : walkFrom at l ≡ first p (walkFrom (at + 2 + d .length) l)
+    unfolding headIn
     step =
-        packet-ends l at in-word (h .accepted) (omega (arith, s .size)) (omega (arith, c .payload-is))
-        ∙ ap (λ (n : ℕ). first (packetOf (kindIn (getD l at 0) (getD l (at + 1) 0)) (errorIn (getD l at 0) (getD l (at + 1) 0)) (take n (drop (at + 2) l))) (walkFrom (at + 2 + n) l)) (sym (s .size))
-        ∙ ap₂ (λ (t e : ℕ). first (packetOf t e x) (walkFrom (at + 2 + d .length) l)) (sym (s .kind)) (sym (s .error))
+        packet-ends l at in-word (h .accepted) (omega (arith, size)) (omega (arith, c .payload-is))
+        ∙ ap (λ (y : Head). first (packetOf (y .kind) (y .error) (take (y .length) (drop (at + 2) l))) (walkFrom (at + 2 + y .length) l)) (sym (c .head))
 
     long : length x ≡ d .length
     long = length-take-le (d .length) (drop (at + 2) l) (omega (arith, length-drop (at + 2) l))

@@ -1,8 +1,5 @@
-pub mod Fields
-pub mod Walks
 pub mod Copies
 pub mod Opens
-pub mod Looks
 pub mod Hands
 pub mod Takes
 pub mod Agree

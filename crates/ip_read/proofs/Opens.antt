@@ -1,11 +1,11 @@
--- Laws of the open packet in lent memory: dropped, laid down, and what its numbers mean.
+-- Laws of the open packet in lent memory: dropped, and laid down.
 -- Assumes nothing.
-use Prim.Native.Nat.{ℕ, suc, _+_, _-_, _/_, _%_, _≤_, _<_}
-use mathlib.Core.Path.{_≡_, sym, ap, ap₂, _∙_, subst}
-use mathlib.Core.Bool.{true, false, not}
+use Prim.Native.Nat.{ℕ, suc, _+_, _-_, _/_, _%_, _≤_}
+use mathlib.Core.Path.{_≡_, sym, ap, ap₂, _∙_}
+use mathlib.Core.Bool.{not}
 use mathlib.Core.List.{List, [], _∷_, _++_}
 use native.Mathlib.Omega.{arith}
-use lib.ListN.{length, getD, take, drop, set, replicate, length-append, length-drop, length-take}
+use lib.ListN.{length, take, drop, set, replicate, length-append, length-drop}
 use lib.Seq.{sets-eq, take-append-add, length-take-le}
 use borrow.Author.Tests.{eq-eqb, ne-eqb}
 use Rattle.ground.specs.Outcome.{Is}
@@ -13,12 +13,9 @@ use Rattle.ground.proofs.Choice.{choose-true, choose-false}
 use Rattle.ground.proofs.Refusing.{refusal-leaves, acceptance-leaves}
 use Rattle.bytes.specs.Runs.{copied, filledFrom}
 use Rattle.bytes.proofs.Runs.{copied-is}
-use Rattle.ip.specs.Read.{none, begun, Sound}
-use Rattle.ip.specs.Memory.{openBytes, twoAt, openIn}
-use Rattle.ip.proofs.Memory.{open-meant}
-use Rattle.ip_read.specs.declared.held.Opened.{Opened}
+use Rattle.ip.specs.Read.{none, begun}
+use Rattle.ip.specs.Memory.{openBytes}
 use Rattle.ip_read.specs.Reading.{dropping}
-use Rattle.ip_read.specs.Steps.{Meant}
 use Rattle.ip_read.proofs.Copies.{copied-behind}
 
 -- ---- none
@@ -67,26 +64,3 @@ settled m m1 m2 m3 t e n k h r e1 e2 e3 =
     let z : length m2 - (8 + k) ≡ 4096 - length s = omega arith in
     e3 ∙ ap₂ (λ (l : List ℕ) (i : ℕ). l ++ replicate i 0) (ap (take (8 + k)) f ∙ take-append-add (x ++ y) (drop 8 m) k) z
     ∙ ap (λ (i : ℕ). 1 ∷ t ∷ e ∷ 0 ∷ n / 256 ∷ n % 256 ∷ i / 256 ∷ i % 256 ∷ (s ++ replicate (4096 - length s) 0)) (sym j)
-
--- what its numbers mean
-module _ (m : List ℕ) (o : Opened) (w : Meant m o) where
-  abbrev bytes : List ℕ
-  bytes = take (o .sofar) (drop 8 m)
-
-  pub meant-none : o .begun ≡ false → openIn m ≡ none
-  unfolding openIn
-  meant-none e = choose-false (begun (getD m 1 0) (getD m 2 0) (twoAt m 4) (take (twoAt m 6) (drop 8 m))) none (sym (w .test) ∙ e)
-
-  pub meant-begun : o .begun ≡ true → openIn m ≡ begun (o .kind) (o .error) (o .length) (take (o .sofar) (drop 8 m))
-  unfolding openIn
-  meant-begun e =
-      choose-true (begun (getD m 1 0) (getD m 2 0) (twoAt m 4) (take (twoAt m 6) (drop 8 m))) none (sym (w .test) ∙ e)
-      ∙ ap₂ (λ (t i : ℕ). begun t i (twoAt m 4) (take (twoAt m 6) (drop 8 m))) (sym (w .kind)) (sym (w .error))
-      ∙ ap₂ (λ (n k : ℕ). begun (o .kind) (o .error) n (take k (drop 8 m))) (sym (w .size)) (sym (w .sofar))
-
-  -- not all of its bytes are there
-  pub meant-sound : length m ≡ 4104 → o .begun ≡ true → (o .length ≤ 4095) × (o .sofar < o .length) × (length (take (o .sofar) (drop 8 m)) ≡ o .sofar)
-  meant-sound h e =
-      let p : Sound (begun (o .kind) (o .error) (o .length) bytes) = subst Sound (meant-begun e) (open-meant m) in
-      let k : o .sofar < o .length = omega (arith, p .4, p .5, length-take (o .sofar) (drop 8 m), length-drop 8 m) in
-      (p .4, k, length-take-le (o .sofar) (drop 8 m) (omega (arith, p .4, length-drop 8 m)))

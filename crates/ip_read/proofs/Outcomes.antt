@@ -15,7 +15,8 @@ use Rattle.fields.specs.Report.{headerOf}
 use Rattle.payload.specs.Answers.{headerWith, headerBytes}
 use Rattle.ip.specs.Read.{Got}
 use Rattle.ip.specs.Memory.{queue, openBytes}
-use Rattle.ip_read.specs.Reading.{gotOf, ipFaults, handedTo, readInto}
+use Rattle.ip_look.specs.Looking.{gotOf}
+use Rattle.ip_read.specs.Reading.{ipFaults, handedTo, readInto}
 use Rattle.ip_read.proofs.Faults.{Taken, takes}
 
 module _ (w m out header : List ℕ) where

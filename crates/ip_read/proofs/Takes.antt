@@ -9,25 +9,28 @@ use lib.ListN.{length, getD, take, drop, length-append, length-drop}
 use lib.Seq.{take-all, length-take-le}
 use Rattle.bytes.specs.Runs.{copied}
 use Rattle.bytes.proofs.Runs.{copied-is, copied-length}
-use Rattle.ip.specs.Packet.{Packet, lengthIn}
+use Rattle.ip.specs.Packet.{Packet}
 use Rattle.ip.specs.Read.{Open, none, begun, Got, gives, first, reading}
 use Rattle.ip.specs.Memory.{queued, queue, openBytes, openIn}
 use Rattle.ip.proofs.Any.{room-enough}
 use Rattle.ip.proofs.Memory.{open-meant}
-use Rattle.ip_read.specs.declared.heads.Head.{Head}
-use Rattle.ip_read.specs.declared.held.Opened.{Opened}
-use Rattle.ip_read.specs.Steps.{Shows, Meant, fourOf, packetOf, walkFrom, begunAt, Followed, TakenIn}
-use Rattle.ip_read.proofs.Walks.{none-reads, begun-runs, begun-ends}
+use Rattle.ip_look.specs.declared.Head.{Head}
+use Rattle.ip_look.specs.declared.Opened.{Opened}
+use Rattle.ip_look.specs.Looking.{headIn, openedIn}
+use Rattle.ip_look.specs.Steps.{packetOf, walkFrom}
+use Rattle.ip_look.proofs.Walks.{none-reads, begun-runs, begun-ends}
+use Rattle.ip_look.proofs.Means.{means-none, means-begun, means-sound}
+use Rattle.ip_read.specs.Steps.{fourOf, begunAt, Followed, TakenIn}
 use Rattle.ip_read.proofs.Copies.{copied-behind, copied-out}
-use Rattle.ip_read.proofs.Opens.{meant-none, meant-begun, meant-sound}
 use Rattle.ip_read.proofs.Hands.{queue-room}
 
 -- ---- an open packet in the memory
 
 -- a packet that begins here: all that follows its header
-pub begun-laid : (m m1 m2 l : List ℕ) (at : ℕ) (d : Head) → length m ≡ 4104 → length l ≡ 1504 → at ≤ 1502 → Shows (getD l at 0) (getD l (at + 1) 0) d
+pub begun-laid : (m m1 m2 l : List ℕ) (at : ℕ) (d : Head) → length m ≡ 4104 → length l ≡ 1504 → at ≤ 1502 → d ≡ headIn (getD l at 0) (getD l (at + 1) 0)
     → m1 ≡ copied (take (length l - (at + 2)) (drop (at + 2) l)) m 8 → m2 ≡ openBytes (begun (d .kind) (d .error) (d .length) (take (length l - (at + 2)) (drop 8 m1)))
     → m2 ≡ openBytes (begunAt at l)
+unfolding headIn
 begun-laid m m1 m2 l at d h k j s e1 e2 =
     let x : List ℕ = drop (at + 2) l in
     let n : length x ≡ length l - (at + 2) = length-drop (at + 2) l in
@@ -36,8 +39,7 @@ begun-laid m m1 m2 l at d h k j s e1 e2 =
     let t : take (length l - (at + 2)) (drop 8 m1) ≡ x =
     ap₂ (λ (i : ℕ) (y : List ℕ). take i (drop 8 y)) z f ∙ copied-out x m 8 0 (omega arith) in
     e2 ∙ ap (λ (y : List ℕ). openBytes (begun (d .kind) (d .error) (d .length) y)) t
-    ∙ ap (λ (i : ℕ). openBytes (begun (d .kind) (d .error) i (drop (at + 2) l))) (s .size)
-    ∙ ap₂ (λ (t e : ℕ). openBytes (begun t e (lengthIn (getD l at 0) (getD l (at + 1) 0)) (drop (at + 2) l))) (s .kind) (s .error)
+    ∙ ap (λ (y : Head). openBytes (begun (y .kind) (y .error) (y .length) (drop (at + 2) l))) s
 
 -- a packet that goes on: the whole payload behind its bytes
 pub further-laid : (m m1 m2 l : List ℕ) (t e n k : ℕ) → length m ≡ 4104 → 8 + k + length l ≤ 4104 → m1 ≡ copied l m (8 + k)
@@ -66,7 +68,7 @@ ended-put m m1 m2 m3 memory l t e n k r hm hn hk hr h e1 e2 e3 =
 
 -- ---- a word that is not refused, with the open packet that the memory means
 pub record Word (m l before : List ℕ) (address : ℕ) (o : Opened) : Type 0 where
-  pub meant : Meant m o
+  pub meant : o ≡ openedIn m
   pub memory-is : length m ≡ 4104
   pub payload-is : length l ≡ 1504
   pub room-is : 6604 ≤ length before
@@ -88,7 +90,7 @@ module _ {m l before : List ℕ} {address : ℕ} {o : Opened} (x : Word m l befo
   -- none is open
   module _ (e : o .begun ≡ false) where
     none-is : g ≡ walkFrom address l
-    none-is = ap (λ (y : Open). reading y address l) (meant-none m o (x .meant) e) ∙ none-reads address l
+    none-is = ap (λ (y : Open). reading y address l) (means-none m o (x .meant) e) ∙ none-reads address l
 
     pub none-accepted : walkFrom address l .refused ≡ false
     none-accepted = ap (λ (y : Got). y .refused) (sym none-is) ∙ x .accepted
@@ -118,13 +120,13 @@ module _ {m l before : List ℕ} {address : ℕ} {o : Opened} (x : Word m l befo
     open-now = begun (o .kind) (o .error) (o .length) s
 
     begun-is : g ≡ reading open-now address l
-    begun-is = ap (λ (y : Open). reading y address l) (meant-begun m o (x .meant) e)
+    begun-is = ap (λ (y : Open). reading y address l) (means-begun m o (x .meant) e)
 
     begun-ok : reading open-now address l .refused ≡ false
     begun-ok = ap (λ (y : Got). y .refused) (sym begun-is) ∙ x .accepted
 
     to-come : o .length - length s ≡ rest
-    to-come = ap (λ (i : ℕ). o .length - i) (meant-sound m o (x .meant) (x .memory-is) e .2)
+    to-come = ap (λ (i : ℕ). o .length - i) (means-sound m o (x .meant) (x .memory-is) e .2)
 
     pub runs-taken : (mem : List ℕ) → length l < rest → mem ≡ openBytes (begun (o .kind) (o .error) (o .length) (s ++ l)) → TakenIn g mem before before 0
     unfolding queue
@@ -155,7 +157,7 @@ module _ {m l before : List ℕ} {address : ℕ} {o : Opened} (x : Word m l befo
 
       long : length (queued p) ≡ 4 + o .length
       long =
-          let n = meant-sound m o (x .meant) (x .memory-is) e in
+          let n = means-sound m o (x .meant) (x .memory-is) e in
           omega (arith, n .1, n .2, length-append s (take rest l), length-take-le rest l j)
 
       count : length (queue (g .packets)) ≡ 4 + o .length + length (queue (walkFrom rest l .packets))

@@ -4,23 +4,20 @@ use Prim.Native.Nat.{ℕ}
 use mathlib.Core.Bool.{not}
 use mathlib.Core.List.{List, [], _∷_, _++_}
 use lib.Dec.{eqb, ltb}
-use lib.ListN.{length, take, drop}
+use lib.ListN.{length, drop}
 use Rattle.ground.specs.Outcome.{Outcome}
 use Rattle.ground.specs.Choice.{choose, both, Fault, refuse, firstOf, refusing}
-use Rattle.infoword.specs.Suffix.{kindOf, addressOf}
+use Rattle.infoword.specs.Suffix.{kindOf}
 use Rattle.fields.specs.Report.{readFaults, headerOf}
 use Rattle.payload.specs.Answers.{headerWith, headerBytes}
 use Rattle.ip.specs.Packet.{Packet}
-use Rattle.ip.specs.Read.{none, Got, reading}
-use Rattle.ip.specs.Memory.{queue, openBytes, openIn}
+use Rattle.ip.specs.Read.{none}
+use Rattle.ip.specs.Memory.{queue, openBytes}
+use Rattle.ip_look.specs.Looking.{gotOf}
 
 -- a word is lost: none is open afterwards
 unfoldable pub dropping : List ℕ → Outcome ℕ (List ℕ)
 dropping m = refusing (firstOf (refuse 1 (not (eqb (length m) 4104)) ∷ [])) (openBytes none) m
-
--- what a word of type 3 gives to the packet that is open in the lent memory
-unfoldable pub gotOf : List ℕ → List ℕ → Got
-gotOf w m = reading (openIn m) (addressOf w) (take 1504 w)
 
 -- 1 of the other lengths; "Payload read"; 19
 abbrev pub ipFaults : List ℕ → List ℕ → ℕ → ℕ → List Fault

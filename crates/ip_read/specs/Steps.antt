@@ -3,40 +3,25 @@
 use Prim.Native.Nat.{ℕ, _+_, _≤_, _/_, _%_}
 use mathlib.Core.Path.{_≡_}
 use mathlib.Core.List.{List, [], _∷_, _++_}
+use lib.Dec.{eqb}
 use lib.ListN.{length, getD, drop}
+use Rattle.ground.specs.Choice.{choose, both}
 use Rattle.bytes.specs.Runs.{copied}
-use Rattle.ip.specs.Packet.{Packet, kindIn, errorIn, lengthIn}
-use Rattle.ip.specs.Read.{Open, none, begun, Got, gives, walk}
-use Rattle.ip.specs.Memory.{queue, openBytes, twoAt, isOpen}
-use Rattle.ip_read.specs.declared.heads.Head.{Head}
-use Rattle.ip_read.specs.declared.held.Opened.{Opened}
+use Rattle.infoword.specs.Suffix.{kindOf}
+use Rattle.ip.specs.Packet.{kindIn, errorIn, lengthIn}
+use Rattle.ip.specs.Read.{Open, begun, Got, gives}
+use Rattle.ip.specs.Memory.{queue, openBytes}
+use Rattle.ip_look.specs.Looking.{gotOf}
+use Rattle.ip_look.specs.Steps.{walkFrom}
 use Rattle.ip_read.specs.declared.taking.Place.{Place}
 
--- what the two bytes of a header show
-pub record Shows (a b : ℕ) (h : Head) : Type 0 where
-  pub kind : h .kind ≡ kindIn a b
-  pub error : h .error ≡ errorIn a b
-  pub size : h .length ≡ lengthIn a b
-  pub most : h .length ≤ 4095
-
--- what the numbers in front of an open packet's bytes mean
-pub record Meant (m : List ℕ) (o : Opened) : Type 0 where
-  pub test : o .begun ≡ isOpen m
-  pub kind : o .kind ≡ getD m 1 0
-  pub error : o .error ≡ getD m 2 0
-  pub size : o .length ≡ twoAt m 4
-  pub sofar : o .sofar ≡ twoAt m 6
+-- the refusal of a word's packets: 19 where those of a word of type 3 are refused, by a memory and a word of their lengths
+abbrev pub packetsRefusal : List ℕ → List ℕ → ℕ
+packetsRefusal w m = choose (both (eqb (kindOf w) 3) (both (eqb (length w) 1536) (both (eqb (length m) 4104) (gotOf w m .refused)))) 19 0
 
 -- the four bytes before a packet that is handed out
 abbrev pub fourOf : ℕ → ℕ → ℕ → List ℕ
 fourOf t e n = t ∷ e ∷ n / 256 ∷ n % 256 ∷ []
-
-abbrev pub packetOf : ℕ → ℕ → List ℕ → Packet
-packetOf t e s = record { kind = t; error = e; bytes = s }
-
--- what the headers from a place on give
-abbrev pub walkFrom : ℕ → List ℕ → Got
-walkFrom at l = walk 0 (drop at l)
 
 -- the packet whose header stands at a place, open with all that follows
 abbrev pub begunAt : ℕ → List ℕ → Open

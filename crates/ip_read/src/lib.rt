@@ -1,24 +1,22 @@
 // Payload words of IP streams (clause 4.3.4), read: packets that end in a word are handed out, and the one that is open is kept.
-mod heads;
 mod held;
-mod looking;
 mod numbers;
 mod taking;
 
-use fields::FIRST_HEADER_ADDRESS;
 use ground::LENGTH_WRONG;
 use ground::PACKETS_WRONG;
 use infoword::IP_STREAM;
 use infoword::STREAM_TYPE;
+use ip_look::PAYLOAD;
+use ip_look::ROOM;
 ghost use mathlib.Core.Path.{_≡_};
 ghost use lib.ListN.{length};
 ghost use Rattle.ground.specs.Outcome.{Is};
 ghost use Rattle.ground.specs.Choice.{firstOf};
 ghost use Rattle.ip_read.specs.Reading.{dropping, ipFaults, readInto};
+ghost use Rattle.ip_read.specs.Steps.{packetsRefusal};
 
-// The payload of a word of type 3, in bytes (table 5), the most that one word hands out, and a header as it is handed to C.
-const PAYLOAD: usize = 1504;
-
+// The most bytes that one word hands out, and those of a header as it is handed to C.
 const PACKETS: usize = 6604;
 
 const HEADER: usize = 16;
@@ -28,10 +26,24 @@ const HEADER: usize = 16;
 pub fn lost(memory: &mut [u8]) -> u8
     ensures { λ r. ⌜ Is (dropping (now (memory .entry))) r (now (memory .exit)) ⌝ }
 {
-    if memory.len() != held::ROOM {
+    if memory.len() != ROOM {
         return LENGTH_WRONG;
     }
     bytes::fill(memory, 0, 0);
+    0
+}
+
+// The refusal of the packets in a word, 19: words of type 0, 1 and 2 have none.
+fn packets_refusal(word: &[u8], memory: &[u8]) -> u8
+    ensures { λ r. ⌜ r ≡ packetsRefusal (now (word .entry)) (now (memory .entry)) ⌝ }
+{
+    if bits::field(word, STREAM_TYPE, 3) != IP_STREAM {
+        return 0;
+    }
+    // a fault may stand behind packets that would already be handed out, so all of the payload is looked at before
+    if ip_look::refused(word, memory) {
+        return PACKETS_WRONG;
+    }
     0
 }
 
@@ -39,7 +51,7 @@ pub fn lost(memory: &mut [u8]) -> u8
 fn refusal(word: &[u8], memory: &[u8], room: usize, header: usize) -> u8
     ensures { λ r. ⌜ r ≡ firstOf (ipFaults (now (word .entry)) (now (memory .entry)) room header) ⌝ }
 {
-    if memory.len() != held::ROOM {
+    if memory.len() != ROOM {
         return LENGTH_WRONG;
     }
     if room < PACKETS {
@@ -48,19 +60,13 @@ fn refusal(word: &[u8], memory: &[u8], room: usize, header: usize) -> u8
     if header != HEADER {
         return LENGTH_WRONG;
     }
-    let n = fields::refusal(word);
-    if 0 < n {
-        return n;
+    // both are looked for before either answers: the word's own comes first
+    let own = fields::refusal(word);
+    let packets = packets_refusal(word, memory);
+    if 0 < own {
+        return own;
     }
-    if bits::field(word, STREAM_TYPE, 3) != IP_STREAM {
-        return 0;
-    }
-    // a fault may stand behind packets that would already be handed out, so all of the payload is looked at before
-    let address = bits::field(word, FIRST_HEADER_ADDRESS, 12) as usize;
-    if looking::refused(&word[..PAYLOAD], memory, address) {
-        return PACKETS_WRONG;
-    }
-    0
+    packets
 }
 
 // Reads the next word of an IP stream: its header into 16 bytes, the packets that end in it to the front of packets, and what is then open

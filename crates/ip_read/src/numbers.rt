@@ -1,16 +1,9 @@
 // Numbers in bytes.
 ghost use mathlib.Core.Path.{_≡_};
 ghost use mathlib.Core.List.{[], _∷_};
-ghost use Prim.Native.Nat.{_+_, _*_, _≤_, _<_};
+ghost use Prim.Native.Nat.{_+_, _≤_};
 ghost use lib.ListN.{length};
 ghost use Rattle.bytes.specs.Runs.{copied};
-
-// The number in two bytes.
-pub fn two(high: u8, low: u8) -> usize
-    ensures { λ r. ⌜ (r ≡ high * 256 + low) × (high < 256) × (low < 256) ⌝ }
-{
-    high as usize * 256 + low as usize
-}
 
 // Four bytes at a place.
 pub fn put4(out: &mut [u8], at: usize, a: u8, b: u8, c: u8, d: u8)

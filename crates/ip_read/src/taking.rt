@@ -1,12 +1,9 @@
 // The second pass, over a payload that is not refused: the packets that end in it are handed out, and what is then open is kept.
-use crate::heads::LAST_HEADER;
-use crate::heads::head_at;
-use crate::heads::padding_at;
 use crate::held::FRONT;
-use crate::held::Opened;
-use crate::held::open_in;
 use crate::held::settle;
 use crate::numbers::put4;
+use ip_look::LAST_HEADER;
+use ip_look::Opened;
 ghost use mathlib.Core.Path.{_≡_};
 ghost use mathlib.Core.Bool.{false};
 ghost use mathlib.Core.List.{[], _++_};
@@ -15,7 +12,8 @@ ghost use lib.ListN.{length, take, drop};
 ghost use Rattle.bytes.specs.Runs.{copied};
 ghost use Rattle.ip.specs.Read.{begun, reading};
 ghost use Rattle.ip.specs.Memory.{queued, queue, openBytes, openIn};
-ghost use Rattle.ip_read.specs.Steps.{fourOf, packetOf, walkFrom, begunAt, HandedOut, Followed, TakenIn};
+ghost use Rattle.ip_look.specs.Steps.{packetOf, walkFrom};
+ghost use Rattle.ip_read.specs.Steps.{fourOf, begunAt, HandedOut, Followed, TakenIn};
 
 // Where the walk over the headers stands, and how much is handed out.
 pub struct Place {
@@ -57,7 +55,7 @@ fn hand_out(payload: &[u8], from: usize, packets: &mut [u8], start: usize) -> Pl
     let mut at = from;
     let mut out = start;
     while at <= LAST_HEADER {
-        let h = head_at(payload, at);
+        let h = ip_look::head_of(payload[at], payload[at + 1]);
         let begin = at + 2;
         let end = begin + h.length;
         if payload.len() < end {
@@ -75,7 +73,7 @@ fn begin(payload: &[u8], at: usize, memory: &mut [u8])
     requires { ⌜ (length (now payload) ≡ 1504) × (at ≤ 1502) × (length (now memory) ≡ 4104) ⌝ }
     ensures { λ _. ⌜ now (memory .exit) ≡ openBytes (begunAt at (now (payload .entry))) ⌝ }
 {
-    let head = head_at(payload, at);
+    let head = ip_look::head_of(payload[at], payload[at + 1]);
     let from = at + 2;
     bytes::copy(&payload[from..], memory, FRONT);
     settle(
@@ -100,7 +98,7 @@ fn keep(payload: &[u8], at: usize, memory: &mut [u8])
         bytes::fill(memory, 0, 0);
         return;
     }
-    if padding_at(payload, at) {
+    if ip_look::is_padding(payload[at], payload[at + 1]) {
         bytes::fill(memory, 0, 0);
         return;
     }
@@ -156,7 +154,7 @@ pub fn take_in(payload: &[u8], address: usize, memory: &mut [u8], packets: &mut 
         × (reading (openIn (now memory)) address (now payload) .refused ≡ false) ⌝ }
     ensures { λ r. ⌜ TakenIn (reading (openIn (now (memory .entry))) address (now (payload .entry))) (now (memory .exit)) (now (packets .entry)) (now (packets .exit)) r ⌝ }
 {
-    let o = open_in(memory);
+    let o = ip_look::open_in(memory);
     if !o.begun {
         return follow(payload, address, memory, packets, 0);
     }

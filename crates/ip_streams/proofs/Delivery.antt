@@ -27,7 +27,7 @@ use Rattle.ip.proofs.Losses.{handed-out}
 use Rattle.ip.proofs.Memory.{queue-fit, open-back, open-length}
 use Rattle.ip.proofs.Step.{place-after}
 use Rattle.ip.proofs.Stream.{fit-append, fit-left, fit-right, fit-drop, place-append, open-append, receive-heard}
-use Rattle.ip_read.specs.Reading.{gotOf}
+use Rattle.ip_look.specs.Looking.{gotOf}
 use Rattle.ip_queue.proofs.Places.{queue-join}
 use Rattle.ip_streams.specs.Calls.{WriteCall, ReadCall, LostCall, Step, reads, loses, passes, doneOf, sentOf, handedBy, Lent, Sends, remains, wordsOf, AllWhole, packetsOf, AllWritten, Hears, AllRead, handed}
 use Rattle.ip_streams.specs.Streams.{fresh, Delivered, Delivers}

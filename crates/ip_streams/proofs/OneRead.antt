@@ -25,7 +25,8 @@ use Rattle.ip.specs.Read.{Open, none, Sound, Got, gives, reading, room}
 use Rattle.ip.specs.Memory.{queue, holds, queueIn, openBytes, openIn}
 use Rattle.ip.proofs.Any.{only-whole, room-enough}
 use Rattle.ip.proofs.Memory.{queue-back, open-meant, open-length}
-use Rattle.ip_read.specs.Reading.{dropping, gotOf, ipFaults, handedTo, readInto}
+use Rattle.ip_look.specs.Looking.{gotOf}
+use Rattle.ip_read.specs.Reading.{dropping, ipFaults, handedTo, readInto}
 use Rattle.ip_read.proofs.Faults.{Taken, takes, taken}
 use Rattle.ip_queue.proofs.Places.{queue-room}
 use Rattle.ip_streams.specs.Calls.{ReadCall, LostCall, handedBy, Lent}

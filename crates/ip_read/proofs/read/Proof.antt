@@ -17,7 +17,7 @@ use Rattle.payload.specs.Answers.{headerWith, headerBytes}
 use Rattle.payload.proofs.Answers.{header-put}
 use Rattle.ip.specs.Read.{reading}
 use Rattle.ip.specs.Memory.{queue, openIn}
-use Rattle.ip_read.specs.Reading.{gotOf}
+use Rattle.ip_look.specs.Looking.{gotOf}
 use Rattle.ip_read.specs.Steps.{TakenIn}
 use Rattle.ip_read.proofs.Faults.{Taken, taken}
 use Rattle.ip_read.proofs.Outcomes.{read-refused, read-other, read-3}

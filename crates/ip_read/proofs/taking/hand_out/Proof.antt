@@ -7,7 +7,7 @@ use Rattle.ip_read.proofs.taking.hand_out.Statement.{statement}
 use Rattle.ip_read.proofs.taking.hand_out.Tie as tie
 use Rattle.ip_read.proofs.taking.hand_out.Reads as reads
 use Rattle.ip_read.proofs.taking.hand_out.Lts as lts
-use Rattle.ip_read.proofs.heads.head_at.Reads as head-at-reads
+use Rattle.ip_look.proofs.head_of.Reads as head-of-reads
 use Rattle.ip_read.proofs.taking.put_packet.Reads as put-packet-reads
 
 abbrev Inv-loop : tie.InvT-loop
@@ -21,18 +21,28 @@ loop-holds c =
     let s = c .before .before in
     hand-none (s .args .payload .now) (s .args .from) (s .args .start) (s .args .packets .now) (s .pre .1)
 
-head-at-requires : tie.Need-head-at-requires Inv-loop μ-loop
-head-at-requires c κs = search needs
+shared-slice-read-head-of : tie.Need-shared-slice-read-head-of Inv-loop μ-loop
+shared-slice-read-head-of c = search needs
+
+add-head-of : tie.Need-add-head-of Inv-loop μ-loop
+add-head-of c = search needs
+
+shared-slice-read-head-of-2 : tie.Need-shared-slice-read-head-of-2 Inv-loop μ-loop
+shared-slice-read-head-of-2 c = search needs
+
+head-of-requires : tie.Need-head-of-requires Inv-loop μ-loop
+head-of-requires c κs = search needs
 
 -- what is known behind the header
-at-header : (c : tie.After-head-at Inv-loop μ-loop)
-    → let l = c .before .before .loop in
-    let a = c .before .before .before .before .before .args in
-    Step (a .payload .now) (a .from) (a .start) (a .packets .now) (l .at) (l .out) (l .packets) (c .head-at .result)
+at-header : (c : tie.After-head-of Inv-loop μ-loop)
+    → let l = c .before .before .before .before .loop in
+    let a = c .before .before .before .before .before .before .before .args in
+    Step (a .payload .now) (a .from) (a .start) (a .packets .now) (l .at) (l .out) (l .packets) (c .head-of .result)
 at-header c =
-    let l = c .before .before in
+    let n = c .before .before .before in
+    let l = n .before in
     let s = l .before .before .before in
-    record { so-far = l .loop .inv; fits = s .pre .2; payload-is = s .pre .0; place = omega (arith, c .before .loop-test); head = c .head-at .ensures }
+    record { so-far = l .loop .inv; fits = s .pre .2; payload-is = s .pre .0; place = omega (arith, n .loop-test); head = c .head-of .ensures .0 }
 
 add-begin : tie.Need-add-begin Inv-loop μ-loop
 add-begin c = search needs
@@ -41,7 +51,7 @@ add-end : tie.Need-add-end Inv-loop μ-loop
 add-end c = search needs
 
 same-length : tie.Need-same-length Inv-loop μ-loop
-same-length c = c .before .before .before .before .loop .inv .size
+same-length c = c .before .before .before .before .before .before .loop .inv .size
 
 returns : tie.Need-returns Inv-loop μ-loop
 returns c =
@@ -70,7 +80,7 @@ add-out-2 : tie.Need-add-out-2 Inv-loop μ-loop
 add-out-2 c =
     let e = c .before .before .before .before .before .before in
     let d = e .before .before in
-    let l = d .before .before in
+    let l = d .before .before .before .before in
     let s = l .before .before .before in
     omega (arith, hand-fits (at-header d) (omega (arith, e .if1 .left)), s .good)
 
@@ -101,7 +111,10 @@ hand-out-spec =
     Inv-loop
     μ-loop
     loop-holds
-    head-at-requires
+    shared-slice-read-head-of
+    add-head-of
+    shared-slice-read-head-of-2
+    head-of-requires
     add-begin
     add-end
     same-length

@@ -2,14 +2,14 @@
 use Prim.Native.Nat.{_≤_, _<_}
 use native.Mathlib.Omega.{arith}
 use borrow.Author.Tests.{not-true, not-false}
-use Rattle.ip_read.proofs.Opens.{meant-sound}
+use Rattle.ip_look.proofs.Means.{means-sound}
 use Rattle.ip_read.proofs.Takes.{Word, none-accepted, none-room, none-taken, runs-taken, ends-accepted, ends-room, ends-taken}
 use borrow.Author.Needs.{needs}
 use Rattle.ip_read.proofs.taking.take_in.Statement.{statement}
 use Rattle.ip_read.proofs.taking.take_in.Tie as tie
 use Rattle.ip_read.proofs.taking.take_in.Reads as reads
 use Rattle.ip_read.proofs.taking.take_in.Lts as lts
-use Rattle.ip_read.proofs.held.open_in.Reads as open-in-reads
+use Rattle.ip_look.proofs.open_in.Reads as open-in-reads
 use Rattle.ip_read.proofs.taking.follow.Reads as follow-reads
 use Rattle.ip_read.proofs.taking.go_on.Reads as go-on-reads
 use Rattle.ip_read.proofs.taking.hand_over.Reads as hand-over-reads
@@ -49,7 +49,7 @@ sound : (c : tie.Else1) → let o = c .before .before .open-in .result in (o .le
 sound c =
     let n = c .before .before in
     let s = n .before .before .before .before .before in
-    let p = meant-sound (s .args .memory .now) (n .open-in .result) (n .open-in .ensures) (s .pre .1) (not-false _ (c .if1 .left)) in
+    let p = means-sound (s .args .memory .now) (n .open-in .result) (n .open-in .ensures) (s .pre .1) (not-false _ (c .if1 .left)) in
     (p .0, p .1)
 
 sub-rest : tie.Need-sub-rest

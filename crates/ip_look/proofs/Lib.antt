@@ -1,0 +1,5 @@
+pub mod Fields
+pub mod Walks
+pub mod Means
+pub mod Looks
+pub mod Agree
