@@ -101,14 +101,14 @@ static bool read_frame(const uint8_t *frame, const struct sent_frame *sent)
 static bool read_recorded(const struct recording *recording, const uint8_t *bytes, size_t n, size_t number,
                           const struct sent_frame *sent)
 {
+    struct recorded recorded = {bytes, recording->frames, recording->frame_bytes};
     size_t at = 0;
     if (n != recording->frames * recording->frame_bytes)
         return fail("%s: it has not as many bytes as were written", recording->path);
     printf("\nthe frames found by the form of their preambles, looked for at every byte\n");
     return find_frames(bytes, n, recording->frame_bytes, number, &at) && read_frame(bytes + at, sent) &&
            refuse_preamble() &&
-           (recording->stream == NULL ||
-            read_stream(bytes, recording->frames, recording->frame_bytes, recording->stream));
+           (recording->stream == NULL || read_stream(&recorded, recording->stream));
 }
 
 bool read_back(const struct recording *recording, size_t number, const struct sent_frame *sent)

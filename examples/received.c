@@ -2,10 +2,8 @@
 
 #include <string.h>
 
-#include "codeword.h"
-#include "opl_text.h"
+#include "opl.h"
 #include "say.h"
-#include "sheet.h"
 
 /* What comes back of a stream. */
 struct received {
@@ -65,8 +63,9 @@ static bool take_packets(struct received *received, const uint8_t *word, uint8_t
 }
 
 /* Takes a payload word of the stream, by its header. */
-static bool take_word(struct received *received, const uint8_t *word)
+static bool take_word(void *taker, const uint8_t *word)
 {
+    struct received *received = taker;
     uint8_t header[OPL_PAYLOAD_HEADER_BYTES];
     if (!accepted(opl_payload_read(word, OPL_PAYLOAD_WORD_BYTES, header, sizeof header), "opl_payload_read",
                   "a payload word of the stream"))
@@ -77,50 +76,6 @@ static bool take_word(struct received *received, const uint8_t *word)
     if (type == TRANSPORT)
         return take_packets(received, word, parity);
     received->dummies++;
-    return true;
-}
-
-/* Takes a codeword of m bytes that has a payload word of the stream. */
-static bool take_codeword(struct received *received, unsigned pattern, const uint8_t *codeword, size_t m)
-{
-    uint8_t word[OPL_PAYLOAD_WORD_BYTES];
-    size_t sent = take_infoword("a codeword of the stream", pattern, codeword, m, word, sizeof word);
-    if (sent == 0)
-        return false;
-    if (sent == coded_bits(sizeof word))
-        return take_word(received, word);
-    received->unread++;
-    return true;
-}
-
-/* Takes what a pipe has of the stream; its codewords become those of the next pipe. */
-static bool take_pipe(struct received *received, const struct pipe *pipe, const uint8_t **codewords)
-{
-    size_t slots = pipe_codewords(pipe), m = opl_codeword_bytes(pipe->pattern);
-    for (size_t slot = 0; slot < slots; slot++) {
-        bool own = slot_stream(pipe, slot) == received->sent->id;
-        if (own && !take_codeword(received, pipe->pattern, *codewords, m))
-            return false;
-        *codewords += m;
-    }
-    return true;
-}
-
-/* Takes what a frame has of the stream. Where that is, the frame's signalling word says. */
-static bool take_frame(struct received *received, const uint8_t *frame)
-{
-    uint8_t word[OPL_SIGNALLING_BYTES], sheet[OPL_SHEET_ROOM];
-    struct pipe pipes[PIPES_MOST];
-    const uint8_t *codewords = frame + START_BYTES;
-    if (take_infoword("a signalling codeword", 0, frame + OPL_PREAMBLE_BYTES, OPL_SIGNALLING_CODEWORD_BYTES, word,
-                      sizeof word) == 0 ||
-        !accepted(opl_signalling_read(word, sizeof word, sheet, sizeof sheet), "opl_signalling_read",
-                  "a signalling word"))
-        return false;
-    size_t n = sheet_pipes(sheet, pipes);
-    for (size_t i = 0; i < n; i++)
-        if (!take_pipe(received, &pipes[i], &codewords))
-            return false;
     return true;
 }
 
@@ -168,27 +123,25 @@ static bool say_received(struct received *received)
 }
 
 /* Takes the stream from all frames. */
-static bool take_frames(struct received *received, const uint8_t *frames, size_t count, size_t frame_bytes)
+static bool take_frames(struct received *received, const struct recorded *recorded)
 {
-    for (size_t i = 0; i < count; i++)
-        if (!take_frame(received, frames + frame_bytes * i))
-            return false;
+    if (!take_words(recorded, received->sent->id, take_word, received, &received->unread))
+        return false;
     if (received->unread == 0)
         return is_all(received) && say_received(received);
-    printf("  %-*s not read: their pattern does not send all bits, which takes a turbo decoder\n", GIVEN,
-           "payload words");
+    say_unread();
     return true;
 }
 
-bool read_stream(const uint8_t *frames, size_t count, size_t frame_bytes, const struct sent_stream *sent)
+bool read_stream(const struct recorded *recorded, const struct sent_stream *sent)
 {
     struct received received = {.sent = sent};
     if (sent->words == 0) /* it has no slot in these frames */
         return true;
     if (!transport_open(&received.due, sent->source.path))
         return false;
-    printf("\nstream %d read back from all %zu frames\n", sent->id, count);
-    bool ok = take_frames(&received, frames, count, frame_bytes);
+    printf("\nstream %d read back from all %zu frames\n", sent->id, recorded->count);
+    bool ok = take_frames(&received, recorded);
     transport_close(&received.due);
     return ok;
 }

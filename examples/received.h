@@ -5,15 +5,14 @@
 #define RECEIVED_H
 
 #include <stdbool.h>
-#include <stddef.h>
-#include <stdint.h>
 
 #include "transport.h"
+#include "words.h"
 
 /*
  * Reads the payload words of a stream in all slots that it has in the frames, says whether their parity holds and
  * shows what is said of a damaged part. True if the packets are those that were sent; null packets are dropped.
  */
-bool read_stream(const uint8_t *frames, size_t count, size_t frame_bytes, const struct sent_stream *sent);
+bool read_stream(const struct recorded *recorded, const struct sent_stream *sent);
 
 #endif
