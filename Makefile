@@ -6,12 +6,14 @@ archive := target/staticlib/libopl.a
 native := target/native/libopl.a
 headend := target/examples/headend
 listing := target/bin/listing
-# what the demonstration is run on, and the frames that it writes; `make demo sheet=FILE` takes another, and so on;
-# `make demo stream=` sends no transport stream
+# what the demonstration is run on, and the frames and the IP packets out of them that it writes; `make demo sheet=FILE`
+# takes another, and so on; `make demo stream=` sends no transport stream, `make demo ip=` no IP packets
 sheet := examples/sheets/story.sheet
 payload := README.md
 stream := examples/streams/story.ts
+ip := examples/streams/story.ip
 frames := target/demo/frames.bin
+packets := target/demo/packets.ip
 headers := $(wildcard include/*.h)
 # as opl.h has it, in three lines
 version = $(shell awk '$$2 ~ /^OPL_VERSION_(MAJOR|MINOR|PATCH)$$/ { print $$3 }' include/opl.h | paste -s -d . -)
@@ -49,7 +51,8 @@ need = $(if $(call missing,$(tools-$1)),$(error make $1 needs what is not instal
 
 help:
 	@echo 'make demo    build the library and the C head-end of examples/, and play some frames of a sheet'
-	@echo '             (sheet=FILE, payload=FILE, stream=FILE, frames=FILE: other files; stream=: no transport stream)'
+	@echo '             (sheet=FILE, payload=FILE, stream=FILE, ip=FILE, frames=FILE, packets=FILE: other files;'
+	@echo '             stream=: no transport stream, ip=: no IP packets)'
 	@echo 'make self-test'
 	@echo '             have the head-end encode sums of words under each pattern and hold them to the sums of codewords'
 	@echo '             (pairs=N: another number of sums under each)'
@@ -67,7 +70,8 @@ demo: need-demo $(headend) $(listing)
 	@echo 'the sheet, $(sheet)'
 	@listed=0; \
 	sh tools/x86-64.sh run $(listing) <'$(sheet)' || listed=$$?; \
-	sh tools/x86-64.sh run $(headend) '$(sheet)' '$(payload)' '$(frames)' $(if $(stream),'$(stream)') && exit $$listed
+	sh tools/x86-64.sh run $(headend) $(if $(ip),--ip '$(ip)' '$(packets)') \
+	    '$(sheet)' '$(payload)' '$(frames)' $(if $(stream),'$(stream)') && exit $$listed
 
 self-test: need-self-test $(headend)
 	@sh tools/x86-64.sh run $(headend) --self-test $(if $(pairs),'$(pairs)')

@@ -1,9 +1,9 @@
 /*
  * A head-end in small: it plays some frames of a sheet, as a transmitter's C program does with the library,
- * finds them again in its own file by their preambles, and reads back one of them and, of all, the stream that
- * carries packets, as a receiver and test equipment do. `make demo` builds it and runs it.
+ * finds them again in its own file by their preambles, and reads back one of them and, of all, the streams that
+ * carry packets, as a receiver and test equipment do. `make demo` builds it and runs it.
  *
- *   headend SHEET PAYLOAD FRAMES [STREAM [COUNT]]
+ *   headend [--ip IP BACK] SHEET PAYLOAD FRAMES [STREAM [COUNT]]
  *   headend --self-test [PAIRS]
  *
  *   SHEET     the file of the first frame's sheet; -: standard input
@@ -13,7 +13,12 @@
  *   STREAM    the file of a transport stream, which the last stream of the first pipe that is sent carries, eight
  *             packets a payload word; null packets fill up the last of these, and dummy words follow. Without it
  *             PAYLOAD fills the words of that stream too
- *   COUNT     how many frames are played; 4 where it is not given
+ *   COUNT     how many frames are played; where it is not given 4, and more while IP packets wait, up to 100
+ *   IP        a file of IP packets, in the form that opl.h has for a queue, which the last stream of the last payload
+ *             pipe that is sent carries, or the one before it where that has the transport stream. The packets run
+ *             on from one payload word into the next, and dummy words follow. They are read back twice, the second
+ *             time with words lost. Without it PAYLOAD fills the words of that stream too
+ *   BACK      the file that the packets are written to as they come out of the frames, in the same form
  *   PAIRS     how many pairs of words the self-test adds under each pattern; 8 where it is not given
  *
  * The self-test plays no frame and takes no file: it encodes sums of words, as a test bench does, and holds their
@@ -29,6 +34,7 @@
 #include <stdlib.h>
 #include <string.h>
 
+#include "ip.h"
 #include "opl_text.h"
 #include "readback.h"
 #include "say.h"
@@ -45,6 +51,9 @@ enum { SHEET_BYTES = 2572 };
 /* The frames that are played if no other number is given: each preamble comes twice. And the most of them. */
 enum { FRAMES = 4, FRAMES_MOST = 10000 };
 
+/* The most that are played if no number is given, which go on after the first as long as IP packets wait. */
+enum { FRAMES_FOR_IP = 100 };
+
 /* The frame that is read back, counted from 0: the first that a receiver has whole if it is late for one. */
 enum { READ_BACK = 1 };
 
@@ -53,6 +62,7 @@ struct frames {
     const char *path, *payload_path;
     FILE *file, *payload;
     size_t count;                        /* of frames that are to be played */
+    size_t count_most;                   /* of those that may be, while IP packets wait */
     size_t number;                       /* of the frame at hand, counted from 0 */
     uint8_t word[OPL_SIGNALLING_BYTES];  /* its signalling word */
     uint8_t start[START_BYTES];          /* its preamble and signalling codeword */
@@ -60,7 +70,8 @@ struct frames {
     size_t words;                        /* payload words of type 1 in all frames */
     size_t sent;                         /* bytes of the payload file in these */
     size_t filled;                       /* words that zeros fill up */
-    struct sent_stream *stream;          /* the stream that carries packets, or null */
+    struct sent_stream *stream;          /* the stream that carries a transport stream, or null */
+    struct ip_stream *ip;                /* the stream that carries IP packets, or null */
     struct sent_frame read_back;         /* what is to be found in the frame that is read back */
 };
 
@@ -109,11 +120,20 @@ static bool payload_word(struct frames *frames, uint8_t id, uint8_t *word)
     return take_payload(frames, payload) && transparent_word(id, payload, word);
 }
 
+/* Makes the next payload word of a stream, by what it carries. */
+static bool make_word(struct frames *frames, uint8_t id, uint8_t *word)
+{
+    if (frames->stream != NULL && frames->stream->id == id)
+        return stream_word(frames->stream, word);
+    if (frames->ip != NULL && frames->ip->id == id)
+        return ip_word(frames->ip, word);
+    return payload_word(frames, id, word);
+}
+
 /* Makes the next payload word of a stream, and keeps the first one of the frame that is read back. */
 static bool next_word(struct frames *frames, uint8_t id, uint8_t *word)
 {
-    bool packets = frames->stream != NULL && frames->stream->id == id;
-    if (!(packets ? stream_word(frames->stream, word) : payload_word(frames, id, word)))
+    if (!make_word(frames, id, word))
         return false;
     if (frames->number == READ_BACK && frames->bytes == 0)
         memcpy(frames->read_back.word, word, OPL_PAYLOAD_WORD_BYTES);
@@ -203,27 +223,6 @@ static void say_payload(const struct frames *frames)
     printf("\n");
 }
 
-/* Prints what was sent in words of type 2, and what follows where the transport stream ends. */
-static void say_stream(const struct sent_stream *stream)
-{
-    const struct transport *source = &stream->source;
-    const char *part = source->taken == source->packets ? "all" : "the first";
-    if (stream->words == 0) {
-        printf("  stream %d: no slot in these frames, so no packet of %s is sent\n", stream->id, source->path);
-        return;
-    }
-    printf("  stream %d: %zu word%s of type 2 with %s %zu packet%s of %s", stream->id, stream->words,
-           plural(stream->words), part, source->taken, plural(source->taken), source->path);
-    if (source->nulls != 0)
-        printf(", %zu of them null", source->nulls);
-    printf("\n");
-    if (stream->filling != 0)
-        printf("    the last word filled up with %zu null packet%s\n", stream->filling, plural(stream->filling));
-    if (stream->dummies != 0)
-        printf("    then %zu dummy word%s of type 0, as no packet is left\n", stream->dummies,
-               plural(stream->dummies));
-}
-
 static void say_sums(const struct frames *frames)
 {
     if (frames->bytes == 0) {
@@ -234,6 +233,8 @@ static void say_sums(const struct frames *frames)
         say_payload(frames);
     if (frames->stream != NULL)
         say_stream(frames->stream);
+    if (frames->ip != NULL)
+        say_ip(frames->ip);
 }
 
 /* Plays one frame of a sheet. */
@@ -258,12 +259,21 @@ static bool next_frame(struct frames *frames, uint8_t *sheet)
                     "opl_signalling_write", "the next frame's sheet");
 }
 
+/* Whether a frame more is played: it is to be, or IP packets wait for it. */
+static bool goes_on(const struct frames *frames)
+{
+    const struct ip_stream *ip = frames->ip;
+    bool waits = ip != NULL && ip->id != NO_STREAM && ip_waits(ip);
+    return frames->number + 1 < (waits ? frames->count_most : frames->count);
+}
+
 /* Plays all frames. The sheet and the signalling word are the first's, and become the last's. */
 static bool play_frames(struct frames *frames, uint8_t *sheet)
 {
     bool ok = play_frame(frames, sheet);
-    while (ok && frames->number + 1 < frames->count)
+    while (ok && goes_on(frames))
         ok = next_frame(frames, sheet) && play_frame(frames, sheet);
+    frames->count = frames->number + 1;
     if (ok)
         say_sums(frames);
     return ok;
@@ -295,32 +305,47 @@ static bool play(struct frames *frames, uint8_t *sheet)
     return ok;
 }
 
-/* Finds the frames again, and reads one and the stream of packets. */
-static bool read_frames(const struct frames *frames)
+/* Plays the frames, finds them again, and reads one and the streams of packets. */
+static bool play_and_read(struct frames *frames, uint8_t *sheet)
 {
-    struct recording recording = {frames->path, frames->count, START_BYTES + frames->bytes, frames->stream};
+    if (!play(frames, sheet))
+        return false;
+    struct recording recording = {frames->path, frames->count, START_BYTES + frames->bytes, frames->stream,
+                                  frames->ip};
     return read_back(&recording, READ_BACK, &frames->read_back);
 }
 
-/* Plays the frames and reads them, with the transport stream of a file. */
-static bool demonstrate_with(struct frames *frames, uint8_t *sheet, const char *path)
+/* Does so with the IP packets of a file, on a stream that carries no transport stream; null: with none. */
+static bool with_packets(struct frames *frames, uint8_t *sheet, const struct ip_paths *paths)
+{
+    struct ip_stream ip;
+    if (paths == NULL)
+        return play_and_read(frames, sheet);
+    if (!ip_open(&ip, paths))
+        return false;
+    ip.id = last_other_stream(sheet, frames->stream == NULL ? NO_STREAM : frames->stream->id);
+    frames->ip = &ip;
+    bool ok = play_and_read(frames, sheet);
+    frames->ip = NULL;
+    ip_close(&ip);
+    return ok;
+}
+
+/* Plays the frames and reads them, with the transport stream of a file and IP packets of another; null: with none. */
+static bool demonstrate(struct frames *frames, uint8_t *sheet, const char *path, const struct ip_paths *ip_paths)
 {
     struct pipe pipes[PIPES_MOST];
     const struct pipe *pipe = first_sent(sheet, pipes);
     struct sent_stream stream = {.id = pipe == NULL ? 0 : last_stream(pipe)};
+    if (path == NULL)
+        return with_packets(frames, sheet, ip_paths);
     if (!transport_open(&stream.source, path))
         return false;
     frames->stream = &stream;
-    bool ok = play(frames, sheet) && read_frames(frames);
+    bool ok = with_packets(frames, sheet, ip_paths);
     frames->stream = NULL;
     transport_close(&stream.source);
     return ok;
-}
-
-/* Plays the frames and reads them; with no transport stream where the path of one is null. */
-static bool demonstrate(struct frames *frames, uint8_t *sheet, const char *path)
-{
-    return path == NULL ? play(frames, sheet) && read_frames(frames) : demonstrate_with(frames, sheet, path);
 }
 
 /* Loads the first frame's sheet, and makes the signalling word of it. */
@@ -338,24 +363,31 @@ static bool read_count(const char *word, size_t *count)
     return read_number("COUNT", "frames", word, READ_BACK + 1, FRAMES_MOST, count);
 }
 
-/* Plays the frames that the words name, and reads them. */
-static bool play_named(int count, char **words)
+/* Plays the frames that the words name, and reads them; with IP packets where their files are not null. */
+static bool play_named(int count, char **words, const struct ip_paths *ip_paths)
 {
     struct frames frames = {.payload_path = words[2], .path = words[3], .count = FRAMES};
     uint8_t sheet[SHEET_BYTES];
-    return (count < 6 || read_count(words[5], &frames.count)) && load_sheet(&frames, words[1], sheet) &&
-           demonstrate(&frames, sheet, count < 5 ? NULL : words[4]);
+    if (count == 6 && !read_count(words[5], &frames.count))
+        return false;
+    frames.count_most = count == 6 ? frames.count : FRAMES_FOR_IP;
+    return load_sheet(&frames, words[1], sheet) &&
+           demonstrate(&frames, sheet, count < 5 ? NULL : words[4], ip_paths);
 }
 
 /* Does what the words ask for. Behind the last of them stands a null pointer, as C has it. */
 static bool serve(int count, char **words)
 {
     bool tested = count > 1 && strcmp(words[1], "--self-test") == 0;
+    bool packets = count > 3 && strcmp(words[1], "--ip") == 0;
+    int before = packets ? 3 : 0; /* words before those that name the frames */
     if (tested && count <= 3)
         return self_test(words[2]);
-    if (!tested && count >= 4 && count <= 6)
-        return play_named(count, words);
-    return fail("usage: headend SHEET PAYLOAD FRAMES [STREAM [COUNT]], or headend --self-test [PAIRS]");
+    if (!tested && count - before >= 4 && count - before <= 6) {
+        struct ip_paths paths = {words[2], words[3]};
+        return play_named(count - before, words + before, packets ? &paths : NULL);
+    }
+    return fail("usage: headend [--ip IP BACK] SHEET PAYLOAD FRAMES [STREAM [COUNT]], or headend --self-test [PAIRS]");
 }
 
 int main(int count, char **words)

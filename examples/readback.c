@@ -5,6 +5,7 @@
 #include <string.h>
 
 #include "codeword.h"
+#include "ip_received.h"
 #include "opl_text.h"
 #include "received.h"
 #include "say.h"
@@ -97,7 +98,7 @@ static bool read_frame(const uint8_t *frame, const struct sent_frame *sent)
     return pipe == NULL || read_payload(frame + START_BYTES, pipe, sent->word);
 }
 
-/* Finds the frames in the n bytes that were recorded, reads one, and the stream of packets in all. */
+/* Finds the frames in the n bytes that were recorded, reads one, and the streams of packets in all. */
 static bool read_recorded(const struct recording *recording, const uint8_t *bytes, size_t n, size_t number,
                           const struct sent_frame *sent)
 {
@@ -108,7 +109,8 @@ static bool read_recorded(const struct recording *recording, const uint8_t *byte
     printf("\nthe frames found by the form of their preambles, looked for at every byte\n");
     return find_frames(bytes, n, recording->frame_bytes, number, &at) && read_frame(bytes + at, sent) &&
            refuse_preamble() &&
-           (recording->stream == NULL || read_stream(&recorded, recording->stream));
+           (recording->stream == NULL || read_stream(&recorded, recording->stream)) &&
+           (recording->ip == NULL || read_ip(&recorded, recording->ip));
 }
 
 bool read_back(const struct recording *recording, size_t number, const struct sent_frame *sent)

@@ -9,6 +9,7 @@
 #include <stddef.h>
 #include <stdint.h>
 
+#include "ip.h"
 #include "opl.h"
 #include "transport.h"
 
@@ -19,18 +20,19 @@ struct sent_frame {
 };
 
 /*
- * Where the frames are: their file, how many it has, and how many bytes each of them has. And the stream that
- * carries packets in them, or null.
+ * Where the frames are: their file, how many it has, and how many bytes each of them has. And the streams in them that
+ * carry a transport stream and IP packets, or null.
  */
 struct recording {
     const char *path;
     size_t frames, frame_bytes;
     const struct sent_stream *stream;
+    const struct ip_stream *ip;
 };
 
 /*
  * Finds the frames of a recording by their preambles, reads the signalling word and the first payload word of
- * one, counted from 0, and shows what a damaged copy of each is refused with; then reads the stream of packets
+ * one, counted from 0, and shows what a damaged copy of each is refused with; then reads the streams of packets
  * out of all frames. True if the frames are there and hold what was sent.
  */
 bool read_back(const struct recording *recording, size_t number, const struct sent_frame *sent);

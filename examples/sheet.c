@@ -106,6 +106,18 @@ uint8_t last_stream(const struct pipe *pipe)
     return pipe->streams[STREAM_BYTES * (pipe->count - 1)];
 }
 
+int last_other_stream(const uint8_t *sheet, int left_out)
+{
+    struct pipe pipes[PIPES_MOST];
+    size_t payload_pipes = sheet_pipes(sheet, pipes) - 1;
+    int last = NO_STREAM;
+    for (size_t i = 0; i < payload_pipes; i++)
+        for (size_t k = 0; k < pipes[i].count && pipe_codewords(&pipes[i]) != 0; k++)
+            if (pipes[i].streams[STREAM_BYTES * k] != left_out)
+                last = pipes[i].streams[STREAM_BYTES * k];
+    return last;
+}
+
 unsigned sheet_frame_index(const uint8_t *sheet)
 {
     const uint8_t *field = sheet + FRAME_INDEX;

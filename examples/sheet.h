@@ -62,4 +62,13 @@ const struct pipe *first_sent(const uint8_t *sheet, struct pipe pipes[PIPES_MOST
 /* The id of the last of the streams that a pipe in use owns. */
 uint8_t last_stream(const struct pipe *pipe);
 
+/* Stands for a stream's id where there is no stream. */
+enum { NO_STREAM = -1 };
+
+/*
+ * The id of the last stream of a payload pipe that codewords are made for, leaving out one id or NO_STREAM, and
+ * NO_STREAM if there is none. The tail pipe's stream is left out too, as a codeword need not fit that pipe.
+ */
+int last_other_stream(const uint8_t *sheet, int left_out);
+
 #endif

@@ -8,6 +8,12 @@
 /* What each packet begins with. */
 enum { SYNC = 0x47 };
 
+bool dummy_word(uint8_t id, uint8_t *word)
+{
+    return accepted(opl_payload_write(DUMMY, id, 0, OPL_EMPTY, 0, OPL_EMPTY, 0, word, OPL_PAYLOAD_WORD_BYTES),
+                    "opl_payload_write", "a dummy");
+}
+
 bool transparent_word(uint8_t id, const uint8_t payload[OPL_PAYLOAD_BYTES], uint8_t *word)
 {
     return accepted(opl_payload_write(TRANSPARENT, id, 0, payload, OPL_PAYLOAD_BYTES, OPL_EMPTY, 0, word,
@@ -107,26 +113,40 @@ static bool take_packets(struct transport *source, uint8_t packets[OPL_TS_PAYLOA
     return true;
 }
 
-static bool dummy_word(struct sent_stream *stream, uint8_t *word)
-{
-    stream->dummies++;
-    return accepted(opl_payload_write(DUMMY, stream->id, 0, OPL_EMPTY, 0, OPL_EMPTY, 0, word,
-                                      OPL_PAYLOAD_WORD_BYTES),
-                    "opl_payload_write", "a dummy");
-}
-
 bool stream_word(struct sent_stream *stream, uint8_t *word)
 {
     uint8_t packets[OPL_TS_PAYLOAD_BYTES], null_packet[OPL_TS_PACKET_BYTES];
     uint32_t count;
     if (!take_packets(&stream->source, packets, &count))
         return false;
-    if (count == 0)
-        return dummy_word(stream, word);
+    if (count == 0) {
+        stream->dummies++;
+        return dummy_word(stream->id, word);
+    }
     make_null_packet(null_packet);
     stream->words++;
     stream->filling += OPL_TS_PACKETS - count;
     return accepted(opl_payload_write(TRANSPORT, stream->id, count, packets, OPL_TS_PACKET_BYTES * count,
                                       null_packet, sizeof null_packet, word, OPL_PAYLOAD_WORD_BYTES),
                     "opl_payload_write", "packets");
+}
+
+void say_stream(const struct sent_stream *stream)
+{
+    const struct transport *source = &stream->source;
+    const char *part = source->taken == source->packets ? "all" : "the first";
+    if (stream->words == 0) {
+        printf("  stream %d: no slot in these frames, so no packet of %s is sent\n", stream->id, source->path);
+        return;
+    }
+    printf("  stream %d: %zu word%s of type 2 with %s %zu packet%s of %s", stream->id, stream->words,
+           plural(stream->words), part, source->taken, plural(source->taken), source->path);
+    if (source->nulls != 0)
+        printf(", %zu of them null", source->nulls);
+    printf("\n");
+    if (stream->filling != 0)
+        printf("    the last word filled up with %zu null packet%s\n", stream->filling, plural(stream->filling));
+    if (stream->dummies != 0)
+        printf("    then %zu dummy word%s of type 0, as no packet is left\n", stream->dummies,
+               plural(stream->dummies));
 }

@@ -1,6 +1,6 @@
 /*
  * A transport stream (ISO/IEC 13818-1) in a file, and the payload words that carry it (clause 4.3.3). And payload
- * words of type 1, which carry anything (clause 4.3.2).
+ * words of types 0 and 1, which carry nothing and anything (clauses 4.3.1 and 4.3.2).
  */
 #ifndef TRANSPORT_H
 #define TRANSPORT_H
@@ -12,8 +12,11 @@
 
 #include "opl.h"
 
-/* The stream types of payload words (clauses 4.3.1 to 4.3.3). */
-enum { DUMMY = 0, TRANSPARENT = 1, TRANSPORT = 2 };
+/* The stream types of payload words (clauses 4.3.1 to 4.3.4). */
+enum { DUMMY = 0, TRANSPARENT = 1, TRANSPORT = 2, IP = 3 };
+
+/* Writes a payload word of type 0, 1,536 bytes. */
+bool dummy_word(uint8_t id, uint8_t *word);
 
 /* Writes a payload word of type 1, 1,536 bytes. */
 bool transparent_word(uint8_t id, const uint8_t payload[OPL_PAYLOAD_BYTES], uint8_t *word);
@@ -55,5 +58,8 @@ struct sent_stream {
  * they are fewer, and null packets; or a dummy word, where there are none left.
  */
 bool stream_word(struct sent_stream *stream, uint8_t *word);
+
+/* Prints what was sent in words of type 2, and what follows where the transport stream ends. */
+void say_stream(const struct sent_stream *stream);
 
 #endif

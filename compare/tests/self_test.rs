@@ -101,7 +101,7 @@ fn a_wrong_number_of_pairs_is_refused() {
 
 #[test]
 fn other_words_are_refused() {
-    let usage = "headend: usage: headend SHEET PAYLOAD FRAMES [STREAM [COUNT]], \
+    let usage = "headend: usage: headend [--ip IP BACK] SHEET PAYLOAD FRAMES [STREAM [COUNT]], \
         or headend --self-test [PAIRS]\n";
     for words in [
         &[][..],
@@ -110,6 +110,10 @@ fn other_words_are_refused() {
         &["--self-test", "1", "1", "1", "1"],
         &["--self-tests", "1"],
         &["1", "--self-test"],
+        &["--ip"],
+        &["--ip", "1"],
+        &["--ip", "1", "2", "3", "4"],
+        &["--ip", "1", "2", "3", "4", "5", "6", "7", "8"],
     ] {
         let (printed, said) = failed(headend(), words, "none");
         assert_eq!((&printed[..], &said[..]), ("", usage), "{words:?}");
