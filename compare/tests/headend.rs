@@ -1,7 +1,14 @@
 //! The head-end of examples/ over transport streams: what it sends of them, that it reads it back, and which files it
-//! refuses. Its self-test has tests of its own, self_test.rs.
+//! refuses. Those over IP packets stand in head_end/ip_streams.rs and head_end/ip_story.rs, those of its self-test in
+//! self_test.rs.
 
 mod head_end;
+#[path = "head_end/ip_sent.rs"]
+mod ip_sent;
+#[path = "head_end/ip_story.rs"]
+mod ip_story;
+#[path = "head_end/ip_streams.rs"]
+mod ip_streams;
 mod program;
 
 use compare::inputs::{plain, plain_pipe};
