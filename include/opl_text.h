@@ -22,7 +22,7 @@ static inline const char *opl_refusal_text(uint8_t number)
 {
     static const char *const texts[] = {
         "OPL_ACCEPTED: no refusal",
-        "OPL_LENGTH: a lent length is wrong, or how much is said to be sent of an IP packet",
+        "OPL_LENGTH: a lent length is wrong",
         "OPL_SPARE: a spare bit is set",
         "OPL_PATTERN: the puncturing pattern is above 27",
         "OPL_BLOCK_PATTERN: a signalling word with a pattern other than 0",

@@ -25,8 +25,8 @@ begin "fuzz, $seconds seconds"
 
 begin 'the C head-end under valgrind'
 gcc -std=c11 -Wall -Wextra -Werror -g -O1 -Iinclude -o target/native/headend examples/*.c "$native"
-$checker target/native/headend examples/sheets/story.sheet README.md target/native/frames.bin \
-    examples/streams/story.ts >target/native/headend.out
+$checker target/native/headend --ip examples/streams/story.ip target/native/packets.ip \
+    examples/sheets/story.sheet README.md target/native/frames.bin examples/streams/story.ts >target/native/headend.out
 
 begin "compare's tests under valgrind"
 host=$(rustc -vV | sed -n 's/^host: //p' | tr 'a-z-' 'A-Z_')

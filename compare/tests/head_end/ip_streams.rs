@@ -182,8 +182,7 @@ fn what_is_no_queue_of_packets_is_refused() {
     let behind = |bytes: &[u8]| [&sound.repeat(3), bytes].concat();
     let unsound = "refused 19, OPL_IP_PACKET: an IP packet or the padding is not sound, \
         or First_Header_Address contradicts the open packet";
-    let length = "refused 1, OPL_LENGTH: a lent length is wrong, \
-        or how much is said to be sent of an IP packet";
+    let length = "refused 1, OPL_LENGTH: a lent length is wrong";
     for (name, ip, what, refusal) in [
         (
             "type_0",

@@ -6,7 +6,7 @@ use mathlib.Core.List.{List, _++_}
 use native.Mathlib.Omega.{arith}
 use borrow.Author.Tests.{eq-eqb, ne-eqb}
 use lib.ListN.{length, drop}
-use Rattle.ground.specs.Outcome.{Is}
+use Rattle.ground.specs.Outcome.{Outcome, Is}
 use Rattle.ground.specs.Choice.{firstOf}
 use Rattle.ground.proofs.Choice.{choose-true, choose-false}
 use Rattle.ground.proofs.Refusing.{refusal-leaves, acceptance-leaves}
@@ -18,6 +18,10 @@ use Rattle.ip.specs.Memory.{queue, openBytes}
 use Rattle.ip_look.specs.Looking.{gotOf}
 use Rattle.ip_read.specs.Reading.{ipFaults, handedTo, readInto}
 use Rattle.ip_read.proofs.Faults.{Taken, takes}
+
+-- an answer that is 0
+pub answered : {M : Type 0} {want : Outcome ℕ M} {m : M} (n : ℕ) → 0 ≡ n → Is want 0 m → Is want n m
+answered n e p = record { answer = sym e ∙ p .answer; memory = p .memory }
 
 module _ (w m out header : List ℕ) where
   abbrev g : Got

@@ -62,11 +62,11 @@ fn refusal(word: &[u8], memory: &[u8], room: usize, header: usize) -> u8
     }
     // both are looked for before either answers: the word's own comes first
     let own = fields::refusal(word);
-    let packets = packets_refusal(word, memory);
+    let carried = packets_refusal(word, memory);
     if 0 < own {
         return own;
     }
-    packets
+    carried
 }
 
 // Reads the next word of an IP stream: its header into 16 bytes, the packets that end in it to the front of packets, and what is then open
@@ -78,12 +78,13 @@ pub fn read(word: &[u8], memory: &mut [u8], packets: &mut [u8], header: &mut [u8
     if 0 < n {
         return n;
     }
+    // nothing is refused: n is 0, and the answer
     let h = fields::header_of(word);
     if h.kind as u32 != IP_STREAM {
         payload::put_header(header, h, 0);
-        return 0;
+        return n;
     }
     let handed = taking::take_in(&word[..PAYLOAD], h.address as usize, memory, packets);
     payload::put_header(header, h, handed as u16);
-    0
+    n
 }

@@ -20,7 +20,7 @@ use Rattle.ip.specs.Memory.{queue, openIn}
 use Rattle.ip_look.specs.Looking.{gotOf}
 use Rattle.ip_read.specs.Steps.{TakenIn}
 use Rattle.ip_read.proofs.Faults.{Taken, taken}
-use Rattle.ip_read.proofs.Outcomes.{read-refused, read-other, read-3}
+use Rattle.ip_read.proofs.Outcomes.{answered, read-refused, read-other, read-3}
 use borrow.Author.Needs.{needs}
 use Rattle.ip_read.proofs.read.Statement.{statement}
 use Rattle.ip_read.proofs.read.Tie as tie
@@ -84,8 +84,9 @@ returns-2 c =
     let h = t .before .before in
     let e = h .before in
     let a = e .before .before .before .before .before .before .before .args in
-    read-other (a .word .now) (a .memory .now) (a .packets .now) (a .header .now) (asked e) (λ three. t .if2 .taken (type-is h ∙ three)) (u .put-header .last .0)
-    (u .put-header .ensures ∙ header-put (h .header-of .result) 0 (a .header .now) (asked e .header-is) ∙ ap headerBytes (h .header-of .ensures))
+    answered (e .before .refusal .result) (omega (arith, e .if1 .left))
+    (read-other (a .word .now) (a .memory .now) (a .packets .now) (a .header .now) (asked e) (λ three. t .if2 .taken (type-is h ∙ three)) (u .put-header .last .0)
+    (u .put-header .ensures ∙ header-put (h .header-of .result) 0 (a .header .now) (asked e .header-is) ∙ ap headerBytes (h .header-of .ensures)))
 
 slice-aggregate-take-in : tie.Need-slice-aggregate-take-in
 slice-aggregate-take-in c =
@@ -149,8 +150,9 @@ returns-3 c =
     let n : ℕ = t .take-in .result in
     let g : TakenIn (reading (openIn (a .memory .now)) (addressOf w) (take 1504 w)) m' (a .packets .now) p' n =
     subst (λ (y : ℕ). TakenIn (reading (openIn (a .memory .now)) y (take 1504 w)) m' (a .packets .now) p' n) x d in
-    read-3 w (a .memory .now) (a .packets .now) (a .header .now) (asked e) (of-3 o) m' p' (u .put-header2 .last .0) (g .kept) (g .packets)
-    (u .put-header2 .ensures ∙ header-put (h .header-of .result) n (a .header .now) (asked e .header-is) ∙ ap₂ headerWith (h .header-of .ensures) (g .out))
+    answered (e .before .refusal .result) (omega (arith, e .if1 .left))
+    (read-3 w (a .memory .now) (a .packets .now) (a .header .now) (asked e) (of-3 o) m' p' (u .put-header2 .last .0) (g .kept) (g .packets)
+    (u .put-header2 .ensures ∙ header-put (h .header-of .result) n (a .header .now) (asked e .header-is) ∙ ap₂ headerWith (h .header-of .ensures) (g .out)))
 
 pub read-spec : {M : Type 1} → statement M
 read-spec =
