@@ -40,10 +40,11 @@ python3 tools/names.py
 begin 'the C headers'
 sh tools/headers.sh
 
-# rt ci removes target/ first, so what it says is kept outside until it is done
+# rt ci removes target/ first, so what it says is kept outside until it is done; one job more than there are
+# processors, since a job waits for its files at times
 begin 'rt ci'
 proved=0
-rt ci 2>&1 | tee "$said" || proved=$?
+RT_JOBS=${RT_JOBS:-$(($(nproc) + 1))} rt ci 2>&1 | tee "$said" || proved=$?
 mkdir -p target
 cp "$said" target/ci.out
 [ "$proved" -eq 0 ]
