@@ -8,9 +8,9 @@ use native.Mathlib.Decide.{decLe}
 use native.Mathlib.Omega.{arith}
 use lib.Dec.{leb}
 use lib.ListN.{length}
-use borrow.Author.Tests.{le-leb, lt-leb}
+use borrow.Author.Tests.{lt-leb}
 use Rattle.ground.specs.Choice.{choose}
-use Rattle.ground.proofs.Choice.{choose-true, choose-false}
+use Rattle.ground.proofs.Choice.{choose-false}
 use Rattle.ip.specs.Packet.{Packet}
 use Rattle.ip.specs.Write.{Filled, behind, filler, rest, noHeader, fill, wordFill, InPlace}
 use Rattle.ip.specs.Stream.{left}

@@ -1,15 +1,15 @@
 -- A stream of calls: the writer's words are those of the sender, and what the reader hands out of them is what the receiver gets.
 -- Assumes nothing.
 use Prim.Native.Nat.{ℕ, suc, _≤_, _<_}
-use mathlib.Core.Bool.{Bool, true, false, not}
+use mathlib.Core.Bool.{Bool, true, false}
 use mathlib.Core.Path.{_≡_, refl, sym, ap, ap₂, _∙_, subst}
 use mathlib.Core.List.{List, [], _∷_, _++_, append-assoc}
 use native.Mathlib.Omega.{arith}
 use native.Mathlib.Decide.{ℕ-discrete, decLe}
 use borrow.Author.Tests.{le-leb, lt-leb, le-ltb}
-use lib.ListN.{length, take, drop, replicate}
-use Rattle.ground.specs.Choice.{choose, both}
-use Rattle.ground.proofs.Choice.{choose-true, choose-false, both-first, both-second}
+use lib.ListN.{length, take, drop}
+use Rattle.ground.specs.Choice.{choose}
+use Rattle.ground.proofs.Choice.{choose-true, choose-false, both-first}
 use Rattle.infoword.specs.Suffix.{kindOf, addressOf}
 use Rattle.infoword.specs.Word.{ipWord}
 use Rattle.fields.specs.Report.{noHeaderAt}
@@ -17,8 +17,8 @@ use Rattle.fields.proofs.Faults.{Readable}
 use Rattle.payload.proofs.IpWords.{ip-kind, ip-address, ip-payload, ip-readable}
 use Rattle.ip.specs.Packet.{Packet, AllFit}
 use Rattle.ip.specs.Write.{announced, address, wordFill, InPlace, toCome}
-use Rattle.ip.specs.Read.{Open, none, Sound, Got, gives, reading}
-use Rattle.ip.specs.Stream.{Word, wordOf, kept, stream, ended, waiting, joined, Heard, heard, lost, receive, arrives, arrived, select}
+use Rattle.ip.specs.Read.{Open, none, Sound, gives, reading}
+use Rattle.ip.specs.Stream.{Word, wordOf, kept, stream, waiting, joined, Heard, heard, lost, receive, arrives, select}
 use Rattle.ip.specs.Memory.{queued, queue, holds, queueIn, openBytes, openIn}
 use Rattle.ip.proofs.Any.{open-sound}
 use Rattle.ip.proofs.Fill.{fill-length}
@@ -29,9 +29,9 @@ use Rattle.ip.proofs.Step.{place-after}
 use Rattle.ip.proofs.Stream.{fit-append, fit-left, fit-right, fit-drop, place-append, open-append, receive-heard}
 use Rattle.ip_look.specs.Looking.{gotOf}
 use Rattle.ip_queue.proofs.Places.{queue-join}
-use Rattle.ip_streams.specs.Calls.{WriteCall, ReadCall, LostCall, Step, reads, loses, passes, doneOf, sentOf, handedBy, Lent, Sends, remains, wordsOf, AllWhole, packetsOf, AllWritten, Hears, AllRead, handed}
-use Rattle.ip_streams.specs.Streams.{fresh, Delivered, Delivers}
-use Rattle.ip_streams.proofs.OneWrite.{Wrote, whole-held, wrote, word-left, done-is, sent-is, queue-left}
+use Rattle.ip_streams.specs.Calls.{WriteCall, ReadCall, Step, reads, loses, passes, doneOf, sentOf, handedBy, Lent, Sends, remains, wordsOf, AllWhole, packetsOf, AllWritten, Hears, AllRead, handed}
+use Rattle.ip_streams.specs.Streams.{fresh, Delivers}
+use Rattle.ip_streams.proofs.OneWrite.{Wrote, whole-held, wrote, word-left, sent-is, queue-left}
 use Rattle.ip_streams.proofs.OneRead.{Did, Dropped, refused-leaves, others-pass, accepted, dropped}
 
 abbrev pub AllWrote : List WriteCall → Type 0

@@ -21,16 +21,16 @@ use Rattle.fields.specs.declared.Header.{Header}
 use Rattle.fields.proofs.Faults.{Readable}
 use Rattle.payload.specs.Answers.{headerWith, headerBytes}
 use Rattle.ip.specs.Packet.{Packet, AllFit}
-use Rattle.ip.specs.Read.{Open, none, Sound, Got, gives, reading, room}
-use Rattle.ip.specs.Memory.{queue, holds, queueIn, openBytes, openIn}
+use Rattle.ip.specs.Read.{Open, none, Sound, Got, gives, room}
+use Rattle.ip.specs.Memory.{queue, queueIn, openBytes, openIn}
 use Rattle.ip.proofs.Any.{only-whole, room-enough}
-use Rattle.ip.proofs.Memory.{queue-back, open-meant, open-length}
+use Rattle.ip.proofs.Memory.{queue-back, open-meant}
 use Rattle.ip_look.specs.Looking.{gotOf}
 use Rattle.ip_read.specs.Reading.{dropping, ipFaults, handedTo, readInto}
 use Rattle.ip_read.proofs.Faults.{Taken, takes, taken}
 use Rattle.ip_queue.proofs.Places.{queue-room}
 use Rattle.ip_streams.specs.Calls.{ReadCall, LostCall, handedBy, Lent}
-use Rattle.ip_streams.specs.Streams.{Whole, OnlyWhole, Untouched, RefusedLeaves, OthersPass}
+use Rattle.ip_streams.specs.Streams.{Whole, OnlyWhole, RefusedLeaves, OthersPass}
 
 -- a call that had the outcome that the reader's promise gives
 abbrev pub Did : ReadCall → Type 0

@@ -1,17 +1,17 @@
 -- One call of the writer: what it leaves, and where the queue then stands.
 -- Assumes nothing.
 use Prim.Native.Nat.{ℕ, zero, suc, _+_, _≤_, _<_}
-use mathlib.Core.Bool.{Bool, true, false, not}
+use mathlib.Core.Bool.{false, not}
 use mathlib.Core.Path.{_≡_, refl, sym, ap, ap₂, _∙_, subst}
 use mathlib.Core.List.{List, [], _∷_, _++_}
 use native.Mathlib.Decide.{decLt}
 use native.Mathlib.Omega.{arith}
 use borrow.Author.Tests.{eq-eqb, ne-eqb, le-ltb}
 use lib.Dec.{eqb}
-use lib.ListN.{length, take, drop, replicate}
+use lib.ListN.{length, take, drop}
 use lib.Seq.{take-at, drop-at, take-append-le}
 use Rattle.ground.specs.Outcome.{Is}
-use Rattle.ground.specs.Choice.{choose, Fault, refuse, firstOf}
+use Rattle.ground.specs.Choice.{Fault, refuse, firstOf}
 use Rattle.ground.proofs.Choice.{choose-true, skip, no-difference, first-clear, first-found, all-clear}
 use Rattle.bits.specs.Lists.{bits, num, unpack, pack}
 use Rattle.bits.proofs.Lists.{bits-length, bits-below, num-bits, unpack-pack, pack-length}

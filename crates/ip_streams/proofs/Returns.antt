@@ -1,8 +1,8 @@
 -- A stream of which every word comes: all packets come back, and it ends.
 -- Assumes nothing.
 use Prim.Native.Nat.{ℕ, zero, suc, _+_, _-_, _*_, _≤_}
-use mathlib.Core.Bool.{Bool, true, false}
-use mathlib.Core.Path.{_≡_, refl, sym, ap, _∙_, subst}
+use mathlib.Core.Bool.{false}
+use mathlib.Core.Path.{_≡_, refl, sym, ap, _∙_}
 use mathlib.Core.List.{List, [], _∷_, _++_, append-nil}
 use native.Mathlib.Nat.{suc-sub-suc}
 use native.Mathlib.Omega.{arith}
@@ -10,12 +10,11 @@ use borrow.Author.Tests.{ltb-false}
 use lib.Dec.{ltb}
 use lib.ListN.{length, take, replicate}
 use lib.Seq.{length-take-le}
-use Rattle.ground.specs.Choice.{choose}
 use Rattle.ip.specs.Packet.{Packet, AllFit}
-use Rattle.ip.specs.Write.{wordFill, fill, InPlace}
+use Rattle.ip.specs.Write.{wordFill, fill}
 use Rattle.ip.specs.Read.{none, room}
-use Rattle.ip.specs.Stream.{openOf, kept, stream, ended, waiting, joined, left, all}
-use Rattle.ip.specs.Memory.{Queue, queue, holds, wrong, joins, unfit, queueIn, openBytes}
+use Rattle.ip.specs.Stream.{openOf, kept, stream, ended, waiting, left, all}
+use Rattle.ip.specs.Memory.{Queue, queue, holds, wrong, unfit, queueIn, openBytes}
 use Rattle.ip.proofs.Any.{choose-elim}
 use Rattle.ip.proofs.Memory.{queue-fit}
 use Rattle.ip.proofs.Step.{place-after, left-less}

@@ -1,6 +1,6 @@
 -- What is read of a word that a call of the writer left, and of one that differs from it in a bit of its header.
 -- Assumes nothing.
-use Prim.Native.Nat.{ℕ, _<_}
+use Prim.Native.Nat.{ℕ}
 use mathlib.Core.Path.{_≡_, sym, ap, _∙_, subst}
 use mathlib.Core.List.{List}
 use native.Mathlib.Omega.{arith}
@@ -16,7 +16,7 @@ use Rattle.ip.specs.Memory.{queueIn}
 use Rattle.ip.proofs.Fill.{fill-length}
 use Rattle.ip_read.proofs.Faults.{word-wrong}
 use Rattle.ip_streams.specs.Calls.{WriteCall, ReadCall}
-use Rattle.ip_streams.specs.Streams.{ipHeader, Untouched, DamageRefused}
+use Rattle.ip_streams.specs.Streams.{ipHeader, DamageRefused}
 use Rattle.ip_streams.proofs.OneWrite.{Wrote, word-then}
 use Rattle.ip_streams.proofs.OneRead.{Did, answer-is, refused-leaves}
 use Rattle.ip_streams.proofs.Delivery.{announced-fits}

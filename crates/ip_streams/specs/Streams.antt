@@ -1,10 +1,10 @@
 -- What is claimed of such calls (02, 2026-05).
 -- Assumes nothing.
-use Prim.Native.Nat.{ℕ, suc, _≤_}
+use Prim.Native.Nat.{ℕ, _≤_}
 use mathlib.Core.Bool.{Bool, true}
 use mathlib.Core.Path.{_≡_}
 use mathlib.Core.List.{List, [], _∷_, _++_}
-use lib.ListN.{length, replicate, take, drop}
+use lib.ListN.{length, replicate, drop}
 use Rattle.infoword.specs.Suffix.{kindOf}
 use Rattle.infoword.specs.Word.{ipWord}
 use Rattle.fields.specs.declared.Header.{Header}
@@ -14,7 +14,7 @@ use Rattle.ip.specs.Write.{address}
 use Rattle.ip.specs.Read.{Open, Sound}
 use Rattle.ip.specs.Stream.{ended, joined, left, arrived, select}
 use Rattle.ip.specs.Memory.{queue, holds, queueIn, openBytes}
-use Rattle.ip_streams.specs.Calls.{WriteCall, ReadCall, LostCall, Step, handedBy, Sends, remains, wordsOf, AllWhole, packetsOf, AllWritten, Hears, AllRead, handed}
+use Rattle.ip_streams.specs.Calls.{WriteCall, ReadCall, Step, handedBy, Sends, remains, wordsOf, AllWhole, packetsOf, AllWritten, Hears, AllRead, handed}
 
 -- nothing open
 abbrev pub fresh : List ℕ

@@ -1,9 +1,8 @@
 -- `fields::rfu_of` meets its contract. Assumes nothing.
 use Prim.Native.Nat.{ℕ, _-_}
-use mathlib.Core.Bool.{true, false}
 use mathlib.Core.Path.{_≡_, sym, ap, _∙_}
 use Rattle.bits.specs.Places.{fieldAt}
-use Rattle.infoword.specs.Suffix.{hasParity, rfuOf, kindOf, leadBits}
+use Rattle.infoword.specs.Suffix.{hasParity, kindOf, leadBits}
 use Rattle.infoword.proofs.Ending.{lead-long, lead-short, rfu-of-3, rfu-of-other}
 use borrow.Author.Needs.{needs}
 use Rattle.fields.proofs.rfu_of.Statement.{statement}

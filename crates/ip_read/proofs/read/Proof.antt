@@ -8,7 +8,6 @@ use borrow.Author.Tests.{eq-eqb}
 use lib.Dec.{eqb}
 use lib.ListN.{length, take}
 use lib.Seq.{length-take-le}
-use Rattle.ground.specs.Choice.{choose}
 use Rattle.ground.proofs.Choice.{choose-true, both-false}
 use Rattle.infoword.specs.Suffix.{kindOf, addressOf}
 use Rattle.fields.specs.Report.{headerOf}
@@ -16,7 +15,7 @@ use Rattle.fields.specs.declared.Header.{Header}
 use Rattle.payload.specs.Answers.{headerWith, headerBytes}
 use Rattle.payload.proofs.Answers.{header-put}
 use Rattle.ip.specs.Read.{reading}
-use Rattle.ip.specs.Memory.{queue, openIn}
+use Rattle.ip.specs.Memory.{openIn}
 use Rattle.ip_look.specs.Looking.{gotOf}
 use Rattle.ip_read.specs.Steps.{TakenIn}
 use Rattle.ip_read.proofs.Faults.{Taken, taken}

@@ -3,7 +3,6 @@ use Prim.Native.Nat.{_≤_}
 use mathlib.Core.Path.{_≡_, _∙_}
 use native.Mathlib.Omega.{arith}
 use lib.ListN.{length}
-use Rattle.fields.specs.Report.{readRefusal}
 use Rattle.ip_read.proofs.Faults.{held-wrong, room-wrong, header-wrong, word-wrong, packets-wrong}
 use borrow.Author.Needs.{needs}
 use Rattle.ip_read.proofs.refusal.Statement.{statement}
