@@ -6,43 +6,11 @@ use borrow.Fn.World.{ArgsD, ResD}
 use borrow.Fn.Kinds.{endedOf}
 use denote.Triple.Clauses.{AtExit}
 use Rattle.ground.proofs.Outcome.{same}
-use Rattle.ip_look.proofs.head_of as head-of
-use Rattle.ip_look.proofs.head_of.Kinds as head-of-kinds
-use Rattle.ip_look.proofs.head_of.Reads as head-of-reads
-use Rattle.ip_look.proofs.is_padding as is-padding
-use Rattle.ip_look.proofs.is_padding.Kinds as is-padding-kinds
-use Rattle.ip_look.proofs.is_padding.Reads as is-padding-reads
-use Rattle.ip_look.proofs.unfit as unfit
-use Rattle.ip_look.proofs.unfit.Kinds as unfit-kinds
-use Rattle.ip_look.proofs.unfit.Reads as unfit-reads
-use Rattle.ip_look.proofs.open_in as open-in
-use Rattle.ip_look.proofs.open_in.Kinds as open-in-kinds
-use Rattle.ip_look.proofs.open_in.Reads as open-in-reads
-use Rattle.ip_look.proofs.refused as refused
-use Rattle.ip_look.proofs.refused.Kinds as refused-kinds
-use Rattle.ip_look.proofs.refused.Reads as refused-reads
+use Rattle.ip_look.proofs.refusal as refusal
+use Rattle.ip_look.proofs.refusal.Kinds as refusal-kinds
+use Rattle.ip_look.proofs.refusal.Reads as refusal-reads
 
-module _ (κs : Lfts 0) (a : ArgsD head-of.signature κs) where
-  pub head-of-agrees : (r r′ : ResD head-of.signature κs) (s s′ : AtExit (endedOf 0 head-of-kinds.ps head-of-kinds.r) κs) →
-      head-of-reads.Post κs a r s → head-of-reads.Post κs a r′ s′ → r ≡ r′
-  head-of-agrees r r′ s s′ p q = same (p .0) (q .0)
-
-module _ (κs : Lfts 0) (a : ArgsD is-padding.signature κs) where
-  pub is-padding-agrees : (r r′ : ResD is-padding.signature κs) (s s′ : AtExit (endedOf 0 is-padding-kinds.ps is-padding-kinds.r) κs) →
-      is-padding-reads.Post κs a r s → is-padding-reads.Post κs a r′ s′ → r ≡ r′
-  is-padding-agrees r r′ s s′ p q = same p q
-
-module _ (κs : Lfts 0) (a : ArgsD unfit.signature κs) where
-  pub unfit-agrees : (r r′ : ResD unfit.signature κs) (s s′ : AtExit (endedOf 0 unfit-kinds.ps unfit-kinds.r) κs) →
-      unfit-reads.Post κs a r s → unfit-reads.Post κs a r′ s′ → r ≡ r′
-  unfit-agrees r r′ s s′ p q = same p q
-
-module _ (κs : Lfts 1) (a : ArgsD open-in.signature κs) where
-  pub open-in-agrees : (r r′ : ResD open-in.signature κs) (s s′ : AtExit (endedOf 1 open-in-kinds.ps open-in-kinds.r) κs) →
-      open-in-reads.Post κs a r s → open-in-reads.Post κs a r′ s′ → r ≡ r′
-  open-in-agrees r r′ s s′ p q = same p q
-
-module _ (κs : Lfts 2) (a : ArgsD refused.signature κs) where
-  pub refused-agrees : (r r′ : ResD refused.signature κs) (s s′ : AtExit (endedOf 2 refused-kinds.ps refused-kinds.r) κs) →
-      refused-reads.Post κs a r s → refused-reads.Post κs a r′ s′ → r ≡ r′
-  refused-agrees r r′ s s′ p q = same p q
+module _ (κs : Lfts 2) (a : ArgsD refusal.signature κs) where
+  pub refusal-agrees : (r r′ : ResD refusal.signature κs) (s s′ : AtExit (endedOf 2 refusal-kinds.ps refusal-kinds.r) κs) →
+      refusal-reads.Post κs a r s → refusal-reads.Post κs a r′ s′ → r ≡ r′
+  refusal-agrees r r′ s s′ p q = same p q

@@ -1,5 +1,4 @@
-pub mod Fields
 pub mod Walks
-pub mod Means
 pub mod Looks
+pub mod Faults
 pub mod Agree

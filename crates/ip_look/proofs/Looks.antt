@@ -15,12 +15,14 @@ use Rattle.ip.specs.Packet.{stuffing, faulty}
 use Rattle.ip.specs.Write.{announced}
 use Rattle.ip.specs.Read.{Open, stray, reading}
 use Rattle.ip.specs.Memory.{openIn}
-use Rattle.ip_look.specs.declared.Head.{Head}
-use Rattle.ip_look.specs.declared.Opened.{Opened}
-use Rattle.ip_look.specs.Looking.{headIn, openedIn, gotOf}
+use Rattle.ip_head.specs.declared.Head.{Head}
+use Rattle.ip_head.specs.Header.{headIn}
+use Rattle.ip_open.specs.declared.Opened.{Opened}
+use Rattle.ip_open.specs.Opening.{openedIn}
+use Rattle.ip_open.proofs.Means.{means-none, means-begun, means-sound}
+use Rattle.ip_look.specs.Looking.{gotOf}
 use Rattle.ip_look.specs.Steps.{walkFrom}
 use Rattle.ip_look.proofs.Walks.{end-refused, padding-refused, fault-refused, packet-refused, none-reads, other-address, begun-refused}
-use Rattle.ip_look.proofs.Means.{means-none, means-begun, means-sound}
 
 -- the test of a header's numbers
 abbrev unfitHead : Head → Bool

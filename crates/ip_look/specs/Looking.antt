@@ -1,23 +1,24 @@
--- What is looked at of an IP stream: the header of a packet, the packet that is open in lent memory, and what a word gives to it.
+-- What is looked at of a word of an IP stream: what it gives to the packet that is open, and the documents' refusals in their order.
 -- Assumes nothing.
 use Prim.Native.Nat.{ℕ}
-use mathlib.Core.List.{List}
-use lib.ListN.{getD, take}
-use Rattle.infoword.specs.Suffix.{addressOf}
-use Rattle.ip.specs.Packet.{kindIn, errorIn, lengthIn}
+use mathlib.Core.Bool.{not}
+use mathlib.Core.List.{List, [], _∷_, _++_}
+use lib.Dec.{eqb, ltb}
+use lib.ListN.{length, take}
+use Rattle.ground.specs.Choice.{both, Fault, refuse}
+use Rattle.infoword.specs.Suffix.{addressOf, kindOf}
+use Rattle.fields.specs.Report.{readFaults}
 use Rattle.ip.specs.Read.{Got, reading}
-use Rattle.ip.specs.Memory.{twoAt, isOpen, openIn}
-use Rattle.ip_look.specs.declared.Head.{Head}
-use Rattle.ip_look.specs.declared.Opened.{Opened}
-
--- what the two bytes of a header show
-unfoldable pub headIn : ℕ → ℕ → Head
-headIn a b = record { kind = kindIn a b; error = errorIn a b; length = lengthIn a b }
-
--- the numbers in front of an open packet's bytes, and whether they are such
-unfoldable pub openedIn : List ℕ → Opened
-openedIn m = record { begun = isOpen m; kind = getD m 1 0; error = getD m 2 0; length = twoAt m 4; sofar = twoAt m 6 }
+use Rattle.ip.specs.Memory.{openIn}
 
 -- what a word of type 3 gives to the packet that is open in the lent memory
 unfoldable pub gotOf : List ℕ → List ℕ → Got
 gotOf w m = reading (openIn m) (addressOf w) (take 1504 w)
+
+-- 1 of the other lengths; "Payload read"; 19
+abbrev pub ipFaults : List ℕ → List ℕ → ℕ → ℕ → List Fault
+ipFaults w m room header =
+    refuse 1 (not (eqb (length m) 4104)) ∷
+    refuse 1 (ltb room 6604) ∷
+    refuse 1 (not (eqb header 16)) ∷
+    (readFaults w ++ (refuse 19 (both (eqb (kindOf w) 3) (gotOf w m .refused)) ∷ []))

@@ -1,9 +1,9 @@
 // The first pass over a payload, which writes nothing: whether it is refused, with 19.
 use crate::LAST_HEADER;
-use crate::head_of;
-use crate::is_padding;
-use crate::open_in;
-use crate::unfit;
+use ip_head::head_of;
+use ip_head::is_padding;
+use ip_head::unfit;
+use ip_open::open_in;
 ghost use mathlib.Core.Path.{_≡_};
 ghost use lib.ListN.{length, drop};
 ghost use Rattle.ip.specs.Write.{announced};

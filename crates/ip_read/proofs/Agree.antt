@@ -7,17 +7,9 @@ use borrow.Fn.Kinds.{endedOf}
 use denote.Ref.{now}
 use denote.Triple.Clauses.{AtExit}
 use Rattle.ground.proofs.Outcome.{agree}
-use Rattle.ip_read.proofs.lost as lost
-use Rattle.ip_read.proofs.lost.Kinds as lost-kinds
-use Rattle.ip_read.proofs.lost.Reads as lost-reads
 use Rattle.ip_read.proofs.read as read
 use Rattle.ip_read.proofs.read.Kinds as read-kinds
 use Rattle.ip_read.proofs.read.Reads as read-reads
-
-module _ (κs : Lfts 1) (a : ArgsD lost.signature κs) where
-  pub lost-agrees : (r r′ : ResD lost.signature κs) (s s′ : AtExit (endedOf 1 lost-kinds.ps lost-kinds.r) κs) →
-      lost-reads.Post κs a r s → lost-reads.Post κs a r′ s′ → (r ≡ r′) × (now (s .0) ≡ now (s′ .0))
-  lost-agrees r r′ s s′ p q = agree p q
 
 module _ (κs : Lfts 4) (a : ArgsD read.signature κs) where
   pub read-agrees : (r r′ : ResD read.signature κs) (s s′ : AtExit (endedOf 4 read-kinds.ps read-kinds.r) κs) →

@@ -12,8 +12,8 @@ use Rattle.bytes.proofs.Runs.{copied-length}
 use Rattle.ip.specs.Packet.{Packet, lengthIn, stuffing}
 use Rattle.ip.specs.Read.{none, Got, gives, first, room}
 use Rattle.ip.specs.Memory.{queued, queue, openBytes}
-use Rattle.ip_look.specs.declared.Head.{Head}
-use Rattle.ip_look.specs.Looking.{headIn}
+use Rattle.ip_head.specs.declared.Head.{Head}
+use Rattle.ip_head.specs.Header.{headIn}
 use Rattle.ip_look.specs.Steps.{packetOf, walkFrom}
 use Rattle.ip_look.proofs.Walks.{only-after, end-packets, end-after, padding-after, packet-ends, packet-runs, runs-nothing, nothing-runs}
 use Rattle.ip_read.specs.Steps.{fourOf, begunAt, HandedOut}

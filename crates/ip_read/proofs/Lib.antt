@@ -3,5 +3,4 @@ pub mod Opens
 pub mod Hands
 pub mod Takes
 pub mod Agree
-pub mod Faults
 pub mod Outcomes

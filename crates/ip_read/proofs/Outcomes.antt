@@ -15,9 +15,9 @@ use Rattle.fields.specs.Report.{headerOf}
 use Rattle.payload.specs.Answers.{headerWith, headerBytes}
 use Rattle.ip.specs.Read.{Got}
 use Rattle.ip.specs.Memory.{queue, openBytes}
-use Rattle.ip_look.specs.Looking.{gotOf}
-use Rattle.ip_read.specs.Reading.{ipFaults, handedTo, readInto}
-use Rattle.ip_read.proofs.Faults.{Taken, takes}
+use Rattle.ip_look.specs.Looking.{gotOf, ipFaults}
+use Rattle.ip_read.specs.Reading.{handedTo, readInto}
+use Rattle.ip_look.proofs.Faults.{Taken, takes}
 
 -- an answer that is 0
 pub answered : {M : Type 0} {want : Outcome ℕ M} {m : M} (n : ℕ) → 0 ≡ n → Is want 0 m → Is want n m

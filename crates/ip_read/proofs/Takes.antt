@@ -14,12 +14,13 @@ use Rattle.ip.specs.Read.{Open, none, begun, Got, gives, first, reading}
 use Rattle.ip.specs.Memory.{queued, queue, openBytes, openIn}
 use Rattle.ip.proofs.Any.{room-enough}
 use Rattle.ip.proofs.Memory.{open-meant}
-use Rattle.ip_look.specs.declared.Head.{Head}
-use Rattle.ip_look.specs.declared.Opened.{Opened}
-use Rattle.ip_look.specs.Looking.{headIn, openedIn}
+use Rattle.ip_head.specs.declared.Head.{Head}
+use Rattle.ip_open.specs.declared.Opened.{Opened}
+use Rattle.ip_head.specs.Header.{headIn}
+use Rattle.ip_open.specs.Opening.{openedIn}
 use Rattle.ip_look.specs.Steps.{packetOf, walkFrom}
 use Rattle.ip_look.proofs.Walks.{none-reads, begun-runs, begun-ends}
-use Rattle.ip_look.proofs.Means.{means-none, means-begun, means-sound}
+use Rattle.ip_open.proofs.Means.{means-none, means-begun, means-sound}
 use Rattle.ip_read.specs.Steps.{fourOf, begunAt, Followed, TakenIn}
 use Rattle.ip_read.proofs.Copies.{copied-behind, copied-out}
 use Rattle.ip_read.proofs.Hands.{queue-room}

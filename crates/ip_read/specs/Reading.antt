@@ -1,31 +1,17 @@
--- What the reader of a word of an IP stream answers and leaves, with the documents' refusals in their order.
+-- What the reader of a word of an IP stream answers and leaves.
 -- Assumes nothing.
 use Prim.Native.Nat.{ℕ}
-use mathlib.Core.Bool.{not}
-use mathlib.Core.List.{List, [], _∷_, _++_}
-use lib.Dec.{eqb, ltb}
+use mathlib.Core.List.{List, _++_}
+use lib.Dec.{eqb}
 use lib.ListN.{length, drop}
 use Rattle.ground.specs.Outcome.{Outcome}
-use Rattle.ground.specs.Choice.{choose, both, Fault, refuse, firstOf, refusing}
+use Rattle.ground.specs.Choice.{choose, firstOf, refusing}
 use Rattle.infoword.specs.Suffix.{kindOf}
-use Rattle.fields.specs.Report.{readFaults, headerOf}
+use Rattle.fields.specs.Report.{headerOf}
 use Rattle.payload.specs.Answers.{headerWith, headerBytes}
 use Rattle.ip.specs.Packet.{Packet}
-use Rattle.ip.specs.Read.{none}
 use Rattle.ip.specs.Memory.{queue, openBytes}
-use Rattle.ip_look.specs.Looking.{gotOf}
-
--- a word is lost: none is open afterwards
-unfoldable pub dropping : List ℕ → Outcome ℕ (List ℕ)
-dropping m = refusing (firstOf (refuse 1 (not (eqb (length m) 4104)) ∷ [])) (openBytes none) m
-
--- 1 of the other lengths; "Payload read"; 19
-abbrev pub ipFaults : List ℕ → List ℕ → ℕ → ℕ → List Fault
-ipFaults w m room header =
-    refuse 1 (not (eqb (length m) 4104)) ∷
-    refuse 1 (ltb room 6604) ∷
-    refuse 1 (not (eqb header 16)) ∷
-    (readFaults w ++ (refuse 19 (both (eqb (kindOf w) 3) (gotOf w m .refused)) ∷ []))
+use Rattle.ip_look.specs.Looking.{gotOf, ipFaults}
 
 -- packets handed out to the front of lent memory
 unfoldable pub handedTo : List ℕ → List Packet → List ℕ

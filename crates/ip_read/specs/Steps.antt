@@ -3,21 +3,13 @@
 use Prim.Native.Nat.{ℕ, _+_, _≤_, _/_, _%_}
 use mathlib.Core.Path.{_≡_}
 use mathlib.Core.List.{List, [], _∷_, _++_}
-use lib.Dec.{eqb}
 use lib.ListN.{length, getD, drop}
-use Rattle.ground.specs.Choice.{choose, both}
 use Rattle.bytes.specs.Runs.{copied}
-use Rattle.infoword.specs.Suffix.{kindOf}
 use Rattle.ip.specs.Packet.{kindIn, errorIn, lengthIn}
 use Rattle.ip.specs.Read.{Open, begun, Got, gives}
 use Rattle.ip.specs.Memory.{queue, openBytes}
-use Rattle.ip_look.specs.Looking.{gotOf}
 use Rattle.ip_look.specs.Steps.{walkFrom}
 use Rattle.ip_read.specs.declared.taking.Place.{Place}
-
--- the refusal of a word's packets: 19 where those of a word of type 3 are refused, by a memory and a word of their lengths
-abbrev pub packetsRefusal : List ℕ → List ℕ → ℕ
-packetsRefusal w m = choose (both (eqb (kindOf w) 3) (both (eqb (length w) 1536) (both (eqb (length m) 4104) (gotOf w m .refused)))) 19 0
 
 -- the four bytes before a packet that is handed out
 abbrev pub fourOf : ℕ → ℕ → ℕ → List ℕ

@@ -1,6 +1,6 @@
 // The open packet in lent memory: 1, type, error, 0, length (two bytes), how many bytes are there so far (two), those bytes, zeros.
 use crate::numbers::put4;
-use ip_look::Opened;
+use ip_open::Opened;
 ghost use mathlib.Core.Path.{_≡_};
 ghost use Prim.Native.Nat.{_≤_, _<_};
 ghost use lib.ListN.{length, take, drop};

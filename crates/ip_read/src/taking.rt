@@ -3,7 +3,7 @@ use crate::held::FRONT;
 use crate::held::settle;
 use crate::numbers::put4;
 use ip_look::LAST_HEADER;
-use ip_look::Opened;
+use ip_open::Opened;
 ghost use mathlib.Core.Path.{_≡_};
 ghost use mathlib.Core.Bool.{false};
 ghost use mathlib.Core.List.{[], _++_};
@@ -55,7 +55,7 @@ fn hand_out(payload: &[u8], from: usize, packets: &mut [u8], start: usize) -> Pl
     let mut at = from;
     let mut out = start;
     while at <= LAST_HEADER {
-        let h = ip_look::head_of(payload[at], payload[at + 1]);
+        let h = ip_head::head_of(payload[at], payload[at + 1]);
         let begin = at + 2;
         let end = begin + h.length;
         if payload.len() < end {
@@ -73,7 +73,7 @@ fn begin(payload: &[u8], at: usize, memory: &mut [u8])
     requires { ⌜ (length (now payload) ≡ 1504) × (at ≤ 1502) × (length (now memory) ≡ 4104) ⌝ }
     ensures { λ _. ⌜ now (memory .exit) ≡ openBytes (begunAt at (now (payload .entry))) ⌝ }
 {
-    let head = ip_look::head_of(payload[at], payload[at + 1]);
+    let head = ip_head::head_of(payload[at], payload[at + 1]);
     let from = at + 2;
     bytes::copy(&payload[from..], memory, FRONT);
     settle(
@@ -98,7 +98,7 @@ fn keep(payload: &[u8], at: usize, memory: &mut [u8])
         bytes::fill(memory, 0, 0);
         return;
     }
-    if ip_look::is_padding(payload[at], payload[at + 1]) {
+    if ip_head::is_padding(payload[at], payload[at + 1]) {
         bytes::fill(memory, 0, 0);
         return;
     }
@@ -154,7 +154,7 @@ pub fn take_in(payload: &[u8], address: usize, memory: &mut [u8], packets: &mut 
         × (reading (openIn (now memory)) address (now payload) .refused ≡ false) ⌝ }
     ensures { λ r. ⌜ TakenIn (reading (openIn (now (memory .entry))) address (now (payload .entry))) (now (memory .exit)) (now (packets .entry)) (now (packets .exit)) r ⌝ }
 {
-    let o = ip_look::open_in(memory);
+    let o = ip_open::open_in(memory);
     if !o.begun {
         return follow(payload, address, memory, packets, 0);
     }

@@ -25,9 +25,10 @@ use Rattle.ip.specs.Read.{Open, none, Sound, Got, gives, room}
 use Rattle.ip.specs.Memory.{queue, queueIn, openBytes, openIn}
 use Rattle.ip.proofs.Any.{only-whole, room-enough}
 use Rattle.ip.proofs.Memory.{queue-back, open-meant}
-use Rattle.ip_look.specs.Looking.{gotOf}
-use Rattle.ip_read.specs.Reading.{dropping, ipFaults, handedTo, readInto}
-use Rattle.ip_read.proofs.Faults.{Taken, takes, taken}
+use Rattle.ip_open.specs.Opening.{dropping}
+use Rattle.ip_look.specs.Looking.{gotOf, ipFaults}
+use Rattle.ip_read.specs.Reading.{handedTo, readInto}
+use Rattle.ip_look.proofs.Faults.{Taken, takes, taken}
 use Rattle.ip_queue.proofs.Places.{queue-room}
 use Rattle.ip_streams.specs.Calls.{ReadCall, LostCall, handedBy, Lent}
 use Rattle.ip_streams.specs.Streams.{Whole, OnlyWhole, RefusedLeaves, OthersPass}

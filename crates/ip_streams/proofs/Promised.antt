@@ -14,9 +14,9 @@ use Rattle.ip_write.proofs.write.Reads as write-reads
 use Rattle.ip_read.proofs.read as read
 use Rattle.ip_read.proofs.read.Kinds as read-kinds
 use Rattle.ip_read.proofs.read.Reads as read-reads
-use Rattle.ip_read.proofs.lost as lost
-use Rattle.ip_read.proofs.lost.Kinds as lost-kinds
-use Rattle.ip_read.proofs.lost.Reads as lost-reads
+use Rattle.ip_open.proofs.lost as lost
+use Rattle.ip_open.proofs.lost.Kinds as lost-kinds
+use Rattle.ip_open.proofs.lost.Reads as lost-reads
 use Rattle.ip_streams.specs.Calls.{WriteCall, ReadCall, LostCall, Step}
 use Rattle.ip_streams.specs.Streams.{Delivers, ComesBack, Ends, OnlyWhole, RefusedLeaves, OthersPass, NothingToCarry, FrontEnough, DamageRefused}
 use Rattle.ip_streams.proofs.OneWrite.{Wrote, nothing-to-carry, front-enough}
@@ -32,7 +32,7 @@ writeCall κs a r s = aWrite (a .0) (a .1 .0) (now (a .1 .1 .0)) (now (a .1 .1 .
 abbrev readCall : (κs : Lfts 4) → ArgsD read.signature κs → ResD read.signature κs → AtExit (endedOf 4 read-kinds.ps read-kinds.r) κs → ReadCall
 readCall κs a r s = aRead (now (a .0)) (now (a .1 .0)) (now (a .1 .1 .0)) (now (a .1 .1 .1 .0)) r (now (s .1 .0)) (now (s .1 .1 .0)) (now (s .1 .1 .1 .0))
 
--- a call ip_read::lost(memory)
+-- a call ip_open::lost(memory)
 abbrev lostCall : (κs : Lfts 1) → ArgsD lost.signature κs → ResD lost.signature κs → AtExit (endedOf 1 lost-kinds.ps lost-kinds.r) κs → LostCall
 lostCall κs a r s = aLoss (now (a .0)) r (now (s .0))
 

@@ -14,7 +14,7 @@ use Rattle.ip.specs.Packet.{Packet}
 use Rattle.ip.specs.Write.{address, wordFill, toCome}
 use Rattle.ip.specs.Memory.{queueIn}
 use Rattle.ip.proofs.Fill.{fill-length}
-use Rattle.ip_read.proofs.Faults.{word-wrong}
+use Rattle.ip_look.proofs.Faults.{word-wrong}
 use Rattle.ip_streams.specs.Calls.{WriteCall, ReadCall}
 use Rattle.ip_streams.specs.Streams.{ipHeader, DamageRefused}
 use Rattle.ip_streams.proofs.OneWrite.{Wrote, word-then}

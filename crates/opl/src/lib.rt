@@ -11,7 +11,8 @@ ghost use Rattle.description.specs.Form1.{writing};
 ghost use Rattle.encapsulation.specs.Writing.{written as payloadWritten};
 ghost use Rattle.payload.specs.Answers.{readInto};
 ghost use Rattle.ip_write.specs.Writing.{written as ipWritten};
-ghost use Rattle.ip_read.specs.Reading.{dropping, readInto as ipReadInto};
+ghost use Rattle.ip_open.specs.Opening.{dropping};
+ghost use Rattle.ip_read.specs.Reading.{readInto as ipReadInto};
 ghost use Rattle.turbo.specs.Encode.{encoded};
 ghost use Rattle.placement.specs.Place.{placing};
 ghost use Rattle.preamble.specs.Preamble.{written};
@@ -107,7 +108,7 @@ pub extern "C" fn opl_ip_read(
 pub extern "C" fn opl_ip_lost(memory: &mut [u8]) -> u8
     ensures { λ r. ⌜ Is (dropping (now (memory .entry))) r (now (memory .exit)) ⌝ }
 {
-    ip_read::lost(memory)
+    ip_open::lost(memory)
 }
 
 // An infoword of 1,536 or 96 bytes turbo-encoded under a pattern.

@@ -18,7 +18,7 @@ use Rattle.ip.specs.Read.{reading}
 use Rattle.ip.specs.Memory.{openIn}
 use Rattle.ip_look.specs.Looking.{gotOf}
 use Rattle.ip_read.specs.Steps.{TakenIn}
-use Rattle.ip_read.proofs.Faults.{Taken, taken}
+use Rattle.ip_look.proofs.Faults.{Taken, taken}
 use Rattle.ip_read.proofs.Outcomes.{answered, read-refused, read-other, read-3}
 use borrow.Author.Needs.{needs}
 use Rattle.ip_read.proofs.read.Statement.{statement}
@@ -26,7 +26,7 @@ use Rattle.ip_read.proofs.read.Tie as tie
 use Rattle.ip_read.proofs.read.Reads as reads
 use Rattle.ip_read.proofs.read.Lts as lts
 use Rattle.fields.proofs.header_of.Reads as header-of-reads
-use Rattle.ip_read.proofs.refusal.Reads as refusal-reads
+use Rattle.ip_look.proofs.refusal.Reads as refusal-reads
 use Rattle.ip_read.proofs.taking.take_in.Reads as take-in-reads
 use Rattle.payload.proofs.put_header.Reads as put-header-reads
 

@@ -4,7 +4,7 @@ use Rattle.opl.proofs.opl_ip_lost.Statement.{statement}
 use Rattle.opl.proofs.opl_ip_lost.Tie as tie
 use Rattle.opl.proofs.opl_ip_lost.Reads as reads
 use Rattle.opl.proofs.opl_ip_lost.Lts as lts
-use Rattle.ip_read.proofs.lost.Reads as lost-reads
+use Rattle.ip_open.proofs.lost.Reads as lost-reads
 
 lost-requires : tie.Need-lost-requires
 lost-requires c κs = search needs

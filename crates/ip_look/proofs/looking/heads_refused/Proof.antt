@@ -10,9 +10,9 @@ use Rattle.ip_look.proofs.looking.heads_refused.Statement.{statement}
 use Rattle.ip_look.proofs.looking.heads_refused.Tie as tie
 use Rattle.ip_look.proofs.looking.heads_refused.Reads as reads
 use Rattle.ip_look.proofs.looking.heads_refused.Lts as lts
-use Rattle.ip_look.proofs.head_of.Reads as head-of-reads
-use Rattle.ip_look.proofs.is_padding.Reads as is-padding-reads
-use Rattle.ip_look.proofs.unfit.Reads as unfit-reads
+use Rattle.ip_head.proofs.head_of.Reads as head-of-reads
+use Rattle.ip_head.proofs.is_padding.Reads as is-padding-reads
+use Rattle.ip_head.proofs.unfit.Reads as unfit-reads
 use Rattle.ip_look.proofs.looking.stray_from.Reads as stray-from-reads
 
 abbrev Inv-loop : tie.InvT-loop

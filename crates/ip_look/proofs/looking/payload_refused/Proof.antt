@@ -2,14 +2,14 @@
 use mathlib.Core.Path.{sym, _∙_}
 use native.Mathlib.Omega.{arith}
 use borrow.Author.Tests.{not-true, not-false}
-use Rattle.ip_look.proofs.Means.{means-sound}
+use Rattle.ip_open.proofs.Means.{means-sound}
 use Rattle.ip_look.proofs.Looks.{look-none, look-other, look-begun}
 use borrow.Author.Needs.{needs}
 use Rattle.ip_look.proofs.looking.payload_refused.Statement.{statement}
 use Rattle.ip_look.proofs.looking.payload_refused.Tie as tie
 use Rattle.ip_look.proofs.looking.payload_refused.Reads as reads
 use Rattle.ip_look.proofs.looking.payload_refused.Lts as lts
-use Rattle.ip_look.proofs.open_in.Reads as open-in-reads
+use Rattle.ip_open.proofs.open_in.Reads as open-in-reads
 use Rattle.ip_look.proofs.looking.address_after.Reads as address-after-reads
 use Rattle.ip_look.proofs.looking.heads_refused.Reads as heads-refused-reads
 

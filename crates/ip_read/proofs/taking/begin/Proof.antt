@@ -6,7 +6,7 @@ use Rattle.ip_read.proofs.taking.begin.Tie as tie
 use Rattle.ip_read.proofs.taking.begin.Reads as reads
 use Rattle.ip_read.proofs.taking.begin.Lts as lts
 use Rattle.bytes.proofs.copy.Reads as copy-reads
-use Rattle.ip_look.proofs.head_of.Reads as head-of-reads
+use Rattle.ip_head.proofs.head_of.Reads as head-of-reads
 use Rattle.ip_read.proofs.held.settle.Reads as settle-reads
 
 shared-slice-read-head-of : tie.Need-shared-slice-read-head-of

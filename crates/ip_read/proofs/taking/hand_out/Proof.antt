@@ -7,7 +7,7 @@ use Rattle.ip_read.proofs.taking.hand_out.Statement.{statement}
 use Rattle.ip_read.proofs.taking.hand_out.Tie as tie
 use Rattle.ip_read.proofs.taking.hand_out.Reads as reads
 use Rattle.ip_read.proofs.taking.hand_out.Lts as lts
-use Rattle.ip_look.proofs.head_of.Reads as head-of-reads
+use Rattle.ip_head.proofs.head_of.Reads as head-of-reads
 use Rattle.ip_read.proofs.taking.put_packet.Reads as put-packet-reads
 
 abbrev Inv-loop : tie.InvT-loop

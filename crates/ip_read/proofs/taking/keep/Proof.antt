@@ -1,7 +1,7 @@
 -- `ip_read::taking::keep` meets its contract. Assumes nothing.
 use mathlib.Core.Path.{sym, _∙_}
 use native.Mathlib.Omega.{arith}
-use Rattle.ip_read.proofs.Opens.{zeros}
+use Rattle.ip_open.proofs.Drops.{zeros}
 use Rattle.ip_read.proofs.Hands.{keep-end, keep-padding, keep-begun}
 use borrow.Author.Needs.{needs}
 use Rattle.ip_read.proofs.taking.keep.Statement.{statement}
@@ -9,7 +9,7 @@ use Rattle.ip_read.proofs.taking.keep.Tie as tie
 use Rattle.ip_read.proofs.taking.keep.Reads as reads
 use Rattle.ip_read.proofs.taking.keep.Lts as lts
 use Rattle.bytes.proofs.fill.Reads as fill-reads
-use Rattle.ip_look.proofs.is_padding.Reads as is-padding-reads
+use Rattle.ip_head.proofs.is_padding.Reads as is-padding-reads
 use Rattle.ip_read.proofs.taking.begin.Reads as begin-reads
 
 fill-requires : tie.Need-fill-requires

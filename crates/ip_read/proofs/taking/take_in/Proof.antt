@@ -2,14 +2,14 @@
 use Prim.Native.Nat.{_≤_, _<_}
 use native.Mathlib.Omega.{arith}
 use borrow.Author.Tests.{not-true, not-false}
-use Rattle.ip_look.proofs.Means.{means-sound}
+use Rattle.ip_open.proofs.Means.{means-sound}
 use Rattle.ip_read.proofs.Takes.{Word, none-accepted, none-room, none-taken, runs-taken, ends-accepted, ends-room, ends-taken}
 use borrow.Author.Needs.{needs}
 use Rattle.ip_read.proofs.taking.take_in.Statement.{statement}
 use Rattle.ip_read.proofs.taking.take_in.Tie as tie
 use Rattle.ip_read.proofs.taking.take_in.Reads as reads
 use Rattle.ip_read.proofs.taking.take_in.Lts as lts
-use Rattle.ip_look.proofs.open_in.Reads as open-in-reads
+use Rattle.ip_open.proofs.open_in.Reads as open-in-reads
 use Rattle.ip_read.proofs.taking.follow.Reads as follow-reads
 use Rattle.ip_read.proofs.taking.go_on.Reads as go-on-reads
 use Rattle.ip_read.proofs.taking.hand_over.Reads as hand-over-reads

@@ -1,14 +1,14 @@
--- `ip_look::is_padding` meets its contract. Assumes nothing.
+-- `ip_head::is_padding` meets its contract. Assumes nothing.
 use mathlib.Core.Path.{sym, ap}
 use mathlib.Core.Bool.{Bool}
 use lib.Dec.{eqb}
 use borrow.Author.Tests.{eq-eqb, ne-eqb}
 use Rattle.ground.specs.Choice.{both}
 use Rattle.ground.proofs.Choice.{both-first}
-use Rattle.ip_look.proofs.is_padding.Statement.{statement}
-use Rattle.ip_look.proofs.is_padding.Tie as tie
-use Rattle.ip_look.proofs.is_padding.Reads as reads
-use Rattle.ip_look.proofs.is_padding.Lts as lts
+use Rattle.ip_head.proofs.is_padding.Statement.{statement}
+use Rattle.ip_head.proofs.is_padding.Tie as tie
+use Rattle.ip_head.proofs.is_padding.Reads as reads
+use Rattle.ip_head.proofs.is_padding.Lts as lts
 
 returns : tie.Need-returns
 returns c =

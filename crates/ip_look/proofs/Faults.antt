@@ -13,9 +13,8 @@ use Rattle.ground.proofs.Choice.{no-difference, AllClear, first-clear, first-fo
 use Rattle.infoword.specs.Suffix.{kindOf}
 use Rattle.fields.specs.Report.{readFaults, readRefusal}
 use Rattle.fields.proofs.Faults.{Readable, read-0, readable}
-use Rattle.ip_look.specs.Looking.{gotOf}
-use Rattle.ip_read.specs.Reading.{ipFaults}
-use Rattle.ip_read.specs.Steps.{packetsRefusal}
+use Rattle.ip_look.specs.Looking.{gotOf, ipFaults}
+use Rattle.ip_look.specs.Steps.{packetsRefusal}
 
 -- faults that are looked for one list after the other
 pub first-behind : (l m : List Fault) → AllClear l → firstOf (l ++ m) ≡ firstOf m

@@ -1,11 +1,11 @@
--- `ip_look::head_of` meets its contract. Assumes nothing.
+-- `ip_head::head_of` meets its contract. Assumes nothing.
 use native.Mathlib.Omega.{arith}
-use Rattle.ip_look.proofs.Fields.{head-is}
+use Rattle.ip_head.proofs.Fields.{head-is}
 use borrow.Author.Needs.{needs}
-use Rattle.ip_look.proofs.head_of.Statement.{statement}
-use Rattle.ip_look.proofs.head_of.Tie as tie
-use Rattle.ip_look.proofs.head_of.Reads as reads
-use Rattle.ip_look.proofs.head_of.Lts as lts
+use Rattle.ip_head.proofs.head_of.Statement.{statement}
+use Rattle.ip_head.proofs.head_of.Tie as tie
+use Rattle.ip_head.proofs.head_of.Reads as reads
+use Rattle.ip_head.proofs.head_of.Lts as lts
 use Rattle.bytes.proofs.two.Reads as two-reads
 
 two-requires : tie.Need-two-requires

@@ -13,8 +13,8 @@ use Rattle.ground.proofs.Choice.{choose-true, choose-false}
 use Rattle.ip.specs.Read.{Open, none, begun, Sound}
 use Rattle.ip.specs.Memory.{unfit, twoAt, openIn}
 use Rattle.ip.proofs.Memory.{open-meant}
-use Rattle.ip_look.specs.declared.Opened.{Opened}
-use Rattle.ip_look.specs.Looking.{openedIn}
+use Rattle.ip_open.specs.declared.Opened.{Opened}
+use Rattle.ip_open.specs.Opening.{openedIn}
 
 -- they are read one by one
 pub read-one-by-one : (m : List ℕ) (b : Bool) (mark t e spare n k : ℕ) → mark ≡ getD m 0 0 → t ≡ getD m 1 0 → e ≡ getD m 2 0 → spare ≡ getD m 3 0

@@ -1,4 +1,4 @@
--- `ip_read::packets_refusal` meets its contract. Assumes nothing.
+-- `ip_look::packets_refusal` meets its contract. Assumes nothing.
 use Prim.Native.Nat.{ℕ}
 use mathlib.Core.Path.{sym, ap₂, _∙_}
 use lib.Dec.{eqb}
@@ -7,14 +7,14 @@ use borrow.Author.Tests.{eq-eqb, ne-eqb}
 use Rattle.ground.specs.Choice.{both}
 use Rattle.ground.proofs.Choice.{choose-true, choose-false, both-first, both-second}
 use Rattle.infoword.specs.Suffix.{kindOf}
 use Rattle.ip_look.specs.Looking.{gotOf}
 use borrow.Author.Needs.{needs}
-use Rattle.ip_read.proofs.packets_refusal.Statement.{statement}
-use Rattle.ip_read.proofs.packets_refusal.Tie as tie
-use Rattle.ip_read.proofs.packets_refusal.Reads as reads
-use Rattle.ip_read.proofs.packets_refusal.Lts as lts
+use Rattle.ip_look.proofs.packets_refusal.Statement.{statement}
+use Rattle.ip_look.proofs.packets_refusal.Tie as tie
+use Rattle.ip_look.proofs.packets_refusal.Reads as reads
+use Rattle.ip_look.proofs.packets_refusal.Lts as lts
 use Rattle.bits.proofs.field.Reads as field-reads
 use Rattle.ip_look.proofs.refused.Reads as refused-reads
 
 field-requires : tie.Need-field-requires
 field-requires c κs = search needs

@@ -1,11 +1,11 @@
--- `ip_read::lost` meets its contract. Assumes nothing.
+-- `ip_open::lost` meets its contract. Assumes nothing.
 use native.Mathlib.Omega.{arith}
-use Rattle.ip_read.proofs.Opens.{lost-refused, lost-done}
+use Rattle.ip_open.proofs.Drops.{lost-refused, lost-done}
 use borrow.Author.Needs.{needs}
-use Rattle.ip_read.proofs.lost.Statement.{statement}
-use Rattle.ip_read.proofs.lost.Tie as tie
-use Rattle.ip_read.proofs.lost.Reads as reads
-use Rattle.ip_read.proofs.lost.Lts as lts
+use Rattle.ip_open.proofs.lost.Statement.{statement}
+use Rattle.ip_open.proofs.lost.Tie as tie
+use Rattle.ip_open.proofs.lost.Reads as reads
+use Rattle.ip_open.proofs.lost.Lts as lts
 use Rattle.bytes.proofs.fill.Reads as fill-reads
 
 returns : tie.Need-returns

@@ -10,7 +10,7 @@ use Rattle.bits.specs.Lists.{bits, num, unpack}
 use Rattle.bits.proofs.Lists.{bits-length, num-bits, num-bits-mod}
 use Rattle.bits.proofs.Numbers.{bits-append, bits-join}
 use Rattle.ip.specs.Packet.{kindIn, errorIn, lengthIn}
-use Rattle.ip_look.specs.Looking.{headIn}
+use Rattle.ip_head.specs.Header.{headIn}
 
 module _ (a b : ℕ) (low : b < 256) where
   abbrev v : ℕ

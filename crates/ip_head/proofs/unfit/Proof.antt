@@ -1,13 +1,13 @@
--- `ip_look::unfit` meets its contract. Assumes nothing.
+-- `ip_head::unfit` meets its contract. Assumes nothing.
 use mathlib.Core.Path.{sym, refl}
 use lib.Dec.{eqb}
 use borrow.Author.Tests.{eq-eqb, ne-eqb}
 use Rattle.ground.specs.Choice.{either}
 use Rattle.ground.proofs.Choice.{hit, skip}
-use Rattle.ip_look.proofs.unfit.Statement.{statement}
-use Rattle.ip_look.proofs.unfit.Tie as tie
-use Rattle.ip_look.proofs.unfit.Reads as reads
-use Rattle.ip_look.proofs.unfit.Lts as lts
+use Rattle.ip_head.proofs.unfit.Statement.{statement}
+use Rattle.ip_head.proofs.unfit.Tie as tie
+use Rattle.ip_head.proofs.unfit.Reads as reads
+use Rattle.ip_head.proofs.unfit.Lts as lts
 
 returns : tie.Need-returns
 returns c =

@@ -1,16 +1,16 @@
--- `ip_look::open_in` meets its contract. Assumes nothing.
+-- `ip_open::open_in` meets its contract. Assumes nothing.
 use Prim.Native.Nat.{ℕ, _+_, _*_}
 use mathlib.Core.Path.{_≡_, ap₂, _∙_}
 use Rattle.ip.specs.Memory.{twoAt}
-use Rattle.ip_look.proofs.Means.{read-one-by-one}
+use Rattle.ip_open.proofs.Means.{read-one-by-one}
 use borrow.Author.Needs.{needs}
-use Rattle.ip_look.proofs.open_in.Statement.{statement}
-use Rattle.ip_look.proofs.open_in.Tie as tie
-use Rattle.ip_look.proofs.open_in.Reads as reads
-use Rattle.ip_look.proofs.open_in.Lts as lts
+use Rattle.ip_open.proofs.open_in.Statement.{statement}
+use Rattle.ip_open.proofs.open_in.Tie as tie
+use Rattle.ip_open.proofs.open_in.Reads as reads
+use Rattle.ip_open.proofs.open_in.Lts as lts
 use Rattle.bits.proofs.byte.Reads as byte-reads
 use Rattle.bytes.proofs.two.Reads as two-reads
-use Rattle.ip_look.proofs.is_open.Reads as is-open-reads
+use Rattle.ip_open.proofs.is_open.Reads as is-open-reads
 
 byte-requires : tie.Need-byte-requires
 byte-requires c κs = search needs

@@ -1,16 +1,16 @@
--- `ip_read::refusal` meets its contract. Assumes nothing.
+-- `ip_look::refusal` meets its contract. Assumes nothing.
 use Prim.Native.Nat.{_≤_}
 use mathlib.Core.Path.{_≡_, _∙_}
 use native.Mathlib.Omega.{arith}
 use lib.ListN.{length}
-use Rattle.ip_read.proofs.Faults.{held-wrong, room-wrong, header-wrong, word-wrong, packets-wrong}
+use Rattle.ip_look.proofs.Faults.{held-wrong, room-wrong, header-wrong, word-wrong, packets-wrong}
 use borrow.Author.Needs.{needs}
-use Rattle.ip_read.proofs.refusal.Statement.{statement}
-use Rattle.ip_read.proofs.refusal.Tie as tie
-use Rattle.ip_read.proofs.refusal.Reads as reads
-use Rattle.ip_read.proofs.refusal.Lts as lts
+use Rattle.ip_look.proofs.refusal.Statement.{statement}
+use Rattle.ip_look.proofs.refusal.Tie as tie
+use Rattle.ip_look.proofs.refusal.Reads as reads
+use Rattle.ip_look.proofs.refusal.Lts as lts
 use Rattle.fields.proofs.refusal.Reads as refusal-reads
-use Rattle.ip_read.proofs.packets_refusal.Reads as packets-refusal-reads
+use Rattle.ip_look.proofs.packets_refusal.Reads as packets-refusal-reads
 
 returns : tie.Need-returns
 returns c =

@@ -1,14 +1,14 @@
--- `ip_look::is_open` meets its contract. Assumes nothing.
+-- `ip_open::is_open` meets its contract. Assumes nothing.
 use native.Mathlib.Omega.{arith}
 use mathlib.Core.Path.{_≡_}
 use mathlib.Core.Bool.{false}
 use borrow.Author.Tests.{eq-eqb, ne-eqb, lt-ltb, le-ltb}
 use Rattle.ip.specs.Memory.{unfit}
 use Rattle.ip.proofs.Memory.{fit-test}
-use Rattle.ip_look.proofs.is_open.Statement.{statement}
-use Rattle.ip_look.proofs.is_open.Tie as tie
-use Rattle.ip_look.proofs.is_open.Reads as reads
-use Rattle.ip_look.proofs.is_open.Lts as lts
+use Rattle.ip_open.proofs.is_open.Statement.{statement}
+use Rattle.ip_open.proofs.is_open.Tie as tie
+use Rattle.ip_open.proofs.is_open.Reads as reads
+use Rattle.ip_open.proofs.is_open.Lts as lts
 
 returns : tie.Need-returns
 returns c = simp (ne-eqb (c .before .args .mark) 1 (c .if1 .taken))
