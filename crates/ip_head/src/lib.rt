@@ -1,10 +1,30 @@
-// The header of a packet in an IP stream, two bytes (clause 4.3.4, table 6), as it is read.
+// The header of a packet in an IP stream, two bytes (clause 4.3.4, table 6): where it fits, its error bit, and all of it as it is read.
 ghost use mathlib.Core.Path.{_≡_};
-ghost use Prim.Native.Nat.{_≤_};
-ghost use lib.Dec.{eqb};
-ghost use Rattle.ground.specs.Choice.{either};
+ghost use Prim.Native.Nat.{_≤_, _<_};
+ghost use lib.Dec.{eqb, leb};
+ghost use Rattle.ground.specs.Choice.{choose, either};
 ghost use Rattle.ip.specs.Packet.{stuffing};
 ghost use Rattle.ip_head.specs.Header.{headIn};
+
+// The last place of a payload where a header fits.
+pub const LAST_HEADER: usize = 1502;
+
+// Whether a header fits at a place of the payload: it is never split.
+pub fn fits(at: usize) -> bool
+    ensures { λ r. ⌜ r ≡ leb at 1502 ⌝ }
+{
+    at <= LAST_HEADER
+}
+
+// IP_Packet_Error of an error byte: 0 for 0, 1 for any other.
+pub fn error_bit(error: u8) -> usize
+    ensures { λ r. ⌜ (r ≡ choose (eqb error 0) 0 1) × (r < 2) ⌝ }
+{
+    if error == 0 {
+        return 0;
+    }
+    1
+}
 
 // What the header of a packet says, two bytes (table 6): IP_Packet_Type, IP_Packet_Error and IP_Packet_Length. RFU is not looked at.
 pub struct Head {

@@ -15,10 +15,8 @@ ghost use Rattle.ground.specs.Choice.{both, firstOf};
 ghost use Rattle.ip_look.specs.Looking.{gotOf, ipFaults};
 ghost use Rattle.ip_look.specs.Steps.{packetsRefusal};
 
-// The payload of a word of type 3, in bytes (table 5), and the last place in it where a header fits: a header is never split.
+// The payload of a word of type 3, in bytes (table 5).
 pub const PAYLOAD: usize = 1504;
-
-pub const LAST_HEADER: usize = 1502;
 
 // The most bytes that one word hands out, and those of a header as it is handed to C.
 const PACKETS: usize = 6604;

@@ -1,5 +1,5 @@
 // The first pass over a payload, which writes nothing: whether it is refused, with 19.
-use crate::LAST_HEADER;
+use ip_head::LAST_HEADER;
 use ip_head::head_of;
 use ip_head::is_padding;
 use ip_head::unfit;

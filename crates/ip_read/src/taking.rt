@@ -2,7 +2,7 @@
 use crate::held::FRONT;
 use crate::held::settle;
 use crate::numbers::put4;
-use ip_look::LAST_HEADER;
+use ip_head::LAST_HEADER;
 use ip_open::Opened;
 ghost use mathlib.Core.Path.{_≡_};
 ghost use mathlib.Core.Bool.{false};

@@ -40,22 +40,12 @@ fn length_at(queue: &[u8], at: usize) -> usize
     bytes::two(queue[at + 2], queue[at + 3])
 }
 
-// IP_Packet_Error: 0 for an error byte of 0, 1 for any other.
-fn error_bit(error: u8) -> usize
-    ensures { λ r. ⌜ (r ≡ choose (eqb error 0) 0 1) × (r < 2) ⌝ }
-{
-    if error == 0 {
-        return 0;
-    }
-    1
-}
-
 // A packet's header as one number (table 6): IP_Packet_Type, IP_Packet_Error, IP_Packet_Length, RFU 0.
 fn header_number(kind: u8, error: u8, n: usize) -> usize
     requires { ⌜ n < 65536 ⌝ }
     ensures { λ r. ⌜ r ≡ headerNumber kind (choose (eqb error 0) 0 1) n ⌝ }
 {
-    kind as usize * 0x4000 + error_bit(error) * 0x2000 + n * 2
+    kind as usize * 0x4000 + ip_head::error_bit(error) * 0x2000 + n * 2
 }
 
 // The header of the packet at a place of the queue.
@@ -112,8 +102,8 @@ fn begins(at: usize, from: usize, end: usize) -> bool
     if end <= from {
         return false;
     }
-    // a header is never split: at 1,503 it waits for the next word
-    at <= PAYLOAD - HEADER
+    // at 1,503 it waits for the next word
+    ip_head::fits(at)
 }
 
 // What is left of the payload behind whole packets: a packet is begun, at 1,502 with none of its data; or all of it is FF, the header FF FF
