@@ -12,9 +12,11 @@ use denote.Ref.{now}
 use denote.Triple.Clauses.{AtExit}
 use lib.Dec.{eqb}
 use lib.ListN.{length}
-use Rattle.preamble.specs.Forms.{told}
-use Rattle.preamble.specs.Alternates.{Opposite, Balanced, asked, Formed}
-use Rattle.preamble.proofs.Alternates.{left-balanced, left-opposite, into-left, formed-into}
+use Rattle.preamble.specs.Alternates.{Opposite, Balanced}
+use Rattle.preamble.proofs.Alternates.{left-balanced, left-opposite}
+use Rattle.preamble_form.specs.Forms.{told}
+use Rattle.preamble_form.specs.Alternates.{asked, Formed}
+use Rattle.preamble_form.proofs.Alternates.{into-left, formed-into}
 use Rattle.opl.proofs.opl_preamble as opl-preamble
 use Rattle.opl.proofs.opl_preamble.Kinds as opl-preamble-kinds
 use Rattle.opl.proofs.opl_preamble.Reads as opl-preamble-reads

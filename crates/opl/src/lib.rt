@@ -16,7 +16,7 @@ ghost use Rattle.ip_read.specs.Reading.{readInto as ipReadInto};
 ghost use Rattle.turbo.specs.Encode.{encoded};
 ghost use Rattle.placement.specs.Place.{placing};
 ghost use Rattle.preamble.specs.Preamble.{written};
-ghost use Rattle.preamble.specs.Forms.{formInto};
+ghost use Rattle.preamble_form.specs.Forms.{formInto};
 
 // The start-of-frame preamble into 32 bytes: upright for 0, inverted for any other number.
 #[no_mangle]
@@ -31,7 +31,7 @@ pub extern "C" fn opl_preamble(inverted: u8, out: &mut [u8]) -> u8
 pub extern "C" fn opl_preamble_form(bytes: &[u8], form: &mut [u8]) -> u8
     ensures { λ r. ⌜ Is (formInto (now (bytes .entry)) (now (form .entry))) r (now (form .exit)) ⌝ }
 {
-    preamble::form::tell_into(bytes, form)
+    preamble_form::tell_into(bytes, form)
 }
 
 // The signalling word of a sheet into 96 bytes.

@@ -1,5 +1,4 @@
 pub mod Laws
-pub mod Telling
 pub mod Alternates
 pub mod Promised
 pub mod Agree

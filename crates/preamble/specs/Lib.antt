@@ -1,3 +1,2 @@
 pub mod Preamble
-pub mod Forms
 pub mod Alternates

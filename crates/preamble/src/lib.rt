@@ -1,6 +1,5 @@
-// The start-of-frame preamble (clause 4.10.1.2), upright or inverted, written; form.rt tells the two from other bytes.
-pub mod form;
-mod sof;
+// The start-of-frame preamble (clause 4.10.1.2), upright or inverted, written; crate preamble_form tells the two from other bytes.
+pub mod sof;
 
 use crate::sof::PREAMBLE;
 ghost use Rattle.ground.specs.Outcome.{Is};

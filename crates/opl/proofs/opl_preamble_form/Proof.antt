@@ -4,7 +4,7 @@ use Rattle.opl.proofs.opl_preamble_form.Statement.{statement}
 use Rattle.opl.proofs.opl_preamble_form.Tie as tie
 use Rattle.opl.proofs.opl_preamble_form.Reads as reads
 use Rattle.opl.proofs.opl_preamble_form.Lts as lts
-use Rattle.preamble.proofs.form.tell_into.Reads as tell-into-reads
+use Rattle.preamble_form.proofs.tell_into.Reads as tell-into-reads
 
 tell-into-requires : tie.Need-tell-into-requires
 tell-into-requires c κs = search needs

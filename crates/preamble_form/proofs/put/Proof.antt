@@ -1,14 +1,14 @@
--- `preamble::form::put` meets its contract. Assumes nothing.
+-- `preamble_form::put` meets its contract. Assumes nothing.
 use Prim.Native.Nat.{ℕ}
 use mathlib.Core.Path.{_≡_, refl}
 use mathlib.Core.List.{List, [], _∷_}
 use native.Mathlib.Omega.{arith}
 use lib.ListN.{length, set}
 use borrow.Author.Needs.{needs}
-use Rattle.preamble.proofs.form.put.Statement.{statement}
-use Rattle.preamble.proofs.form.put.Tie as tie
-use Rattle.preamble.proofs.form.put.Reads as reads
-use Rattle.preamble.proofs.form.put.Lts as lts
+use Rattle.preamble_form.proofs.put.Statement.{statement}
+use Rattle.preamble_form.proofs.put.Tie as tie
+use Rattle.preamble_form.proofs.put.Reads as reads
+use Rattle.preamble_form.proofs.put.Lts as lts
 
 -- one byte, set
 only : (l : List ℕ) (v : ℕ) → length l ≡ 1 → set l 0 v ≡ v ∷ []

@@ -14,10 +14,10 @@ use Rattle.ground.specs.Choice.{choose, both, firstOf}
 use Rattle.ground.proofs.Choice.{choose-true, choose-false, both-left, both-right}
 use Rattle.ground.proofs.Refusing.{refusal-leaves, acceptance-leaves}
 use Rattle.ground.proofs.Answers.{refusedBy, acceptedWith, verdict-accepted, verdict-refused, refused-by, accepted-with}
 use Rattle.preamble.specs.Preamble.{sofInverted, due}
-use Rattle.preamble.specs.Forms.{same, formOf, told, formFaults, forming, formInto}
-use Rattle.preamble.specs.declared.form.Form.{Form}
-use Rattle.preamble.specs.declared.form.Form.the-variants.{Neither, Upright, Inverted, Refused}
+use Rattle.preamble_form.specs.Forms.{same, formOf, told, formFaults, forming, formInto}
+use Rattle.preamble_form.specs.declared.Form.{Form}
+use Rattle.preamble_form.specs.declared.Form.the-variants.{Neither, Upright, Inverted, Refused}
 
 -- ---- the test
 

@@ -1,13 +1,13 @@
--- `preamble::form::tell` meets its contract. Assumes nothing.
+-- `preamble_form::tell` meets its contract. Assumes nothing.
 use mathlib.Core.Path.{sym, _∙_}
 use native.Mathlib.Omega.{arith}
-use Rattle.preamble.proofs.Telling.{upright, inverted, neither, tells-form, tells-refusal}
+use Rattle.preamble_form.proofs.Telling.{upright, inverted, neither, tells-form, tells-refusal}
 use borrow.Author.Needs.{needs}
-use Rattle.preamble.proofs.form.tell.Statement.{statement}
-use Rattle.preamble.proofs.form.tell.Tie as tie
-use Rattle.preamble.proofs.form.tell.Reads as reads
-use Rattle.preamble.proofs.form.tell.Lts as lts
-use Rattle.preamble.proofs.form.is_sof.Reads as is-sof-reads
+use Rattle.preamble_form.proofs.tell.Statement.{statement}
+use Rattle.preamble_form.proofs.tell.Tie as tie
+use Rattle.preamble_form.proofs.tell.Reads as reads
+use Rattle.preamble_form.proofs.tell.Lts as lts
+use Rattle.preamble_form.proofs.is_sof.Reads as is-sof-reads
 
 returns : tie.Need-returns
 returns c = tells-refusal (c .before .before .args .bytes .now) (λ e. omega (arith, c .if1 .taken))

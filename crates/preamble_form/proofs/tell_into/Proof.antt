@@ -1,21 +1,21 @@
--- `preamble::form::tell_into` meets its contract. Assumes nothing.
+-- `preamble_form::tell_into` meets its contract. Assumes nothing.
 use Prim.Native.Nat.{ℕ}
 use mathlib.Core.Path.{_≡_, refl, sym, ap, _∙_}
 use mathlib.Core.List.{List, [], _∷_}
 use native.Mathlib.Omega.{arith}
 use Rattle.ground.specs.Outcome.{Is}
 use Rattle.ground.proofs.Answers.{acceptedWith}
-use Rattle.preamble.specs.Forms.{told, formInto}
-use Rattle.preamble.specs.declared.form.Form.{Form}
-use Rattle.preamble.specs.declared.form.Form.the-variants.{Neither, Upright, Inverted}
-use Rattle.preamble.proofs.Telling.{into-room, into-refused, into-done}
+use Rattle.preamble_form.specs.Forms.{told, formInto}
+use Rattle.preamble_form.specs.declared.Form.{Form}
+use Rattle.preamble_form.specs.declared.Form.the-variants.{Neither, Upright, Inverted}
+use Rattle.preamble_form.proofs.Telling.{into-room, into-refused, into-done}
 use borrow.Author.Needs.{needs}
-use Rattle.preamble.proofs.form.tell_into.Statement.{statement}
-use Rattle.preamble.proofs.form.tell_into.Tie as tie
-use Rattle.preamble.proofs.form.tell_into.Reads as reads
-use Rattle.preamble.proofs.form.tell_into.Lts as lts
-use Rattle.preamble.proofs.form.tell.Reads as tell-reads
-use Rattle.preamble.proofs.form.put.Reads as put-reads
+use Rattle.preamble_form.proofs.tell_into.Statement.{statement}
+use Rattle.preamble_form.proofs.tell_into.Tie as tie
+use Rattle.preamble_form.proofs.tell_into.Reads as reads
+use Rattle.preamble_form.proofs.tell_into.Lts as lts
+use Rattle.preamble_form.proofs.tell.Reads as tell-reads
+use Rattle.preamble_form.proofs.put.Reads as put-reads
 
 -- a form that was told, and put
 put-form : (k : lts.After-tell (tell-reads.Asked, tell-reads.Learnt, put-reads.Asked, put-reads.Learnt) reads.Pre reads.Post) (h : Form) (f : ℕ) {r : ℕ} (m : List ℕ)

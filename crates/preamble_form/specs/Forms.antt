@@ -7,9 +7,9 @@ use lib.Dec.{eqb}
 use lib.ListN.{length}
 use Rattle.ground.specs.Outcome.{Outcome, Told}
 use Rattle.ground.specs.Choice.{choose, both, Fault, refuse, firstOf, refusing, verdict}
 use Rattle.preamble.specs.Preamble.{sof, sofInverted}
-use Rattle.preamble.specs.declared.form.Form.{Form}
-use Rattle.preamble.specs.declared.form.Form.the-variants.{Neither, Upright, Inverted, Refused}
+use Rattle.preamble_form.specs.declared.Form.{Form}
+use Rattle.preamble_form.specs.declared.Form.the-variants.{Neither, Upright, Inverted, Refused}
 
 -- two lists have the same entries
 unfoldable pub same : List ℕ → List ℕ → Bool

@@ -1,13 +1,13 @@
-// Which of the two preambles bytes are, if any.
-use crate::sof;
-use crate::sof::PREAMBLE;
+// Which of the two preambles (clause 4.10.1.2) bytes are, if any.
 use ground::LENGTH_WRONG;
+use preamble::sof;
+use preamble::sof::PREAMBLE;
 ghost use mathlib.Core.Path.{_≡_};
 ghost use mathlib.Core.List.{[], _∷_};
 ghost use lib.ListN.{length};
 ghost use Rattle.ground.specs.Outcome.{Is};
 ghost use Rattle.preamble.specs.Preamble.{due};
-ghost use Rattle.preamble.specs.Forms.{same, told, forming, formInto};
+ghost use Rattle.preamble_form.specs.Forms.{same, told, forming, formInto};
 
 // What 32 bytes are, or the number of the refusal of others.
 pub enum Form {

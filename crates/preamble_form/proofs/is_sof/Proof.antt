@@ -1,4 +1,4 @@
--- `preamble::form::is_sof` meets its contract: after i bytes it is known whether the first i are the preamble's. Assumes nothing.
+-- `preamble_form::is_sof` meets its contract: after i bytes it is known whether the first i are the preamble's. Assumes nothing.
 use Prim.Native.Nat.{ℕ, _-_, _≤_, _<_}
 use mathlib.Core.Bool.{Bool, _&&_}
 use mathlib.Core.Path.{_≡_, refl, sym, ap, ap₂, _∙_}
@@ -8,16 +8,16 @@ use native.Mathlib.Omega.{arith}
 use lib.Dec.{eqb}
 use lib.ListN.{getD, take}
 use lib.Seq.{take-all}
 use Rattle.preamble.specs.Preamble.{due}
-use Rattle.preamble.specs.Forms.{same}
 use Rattle.preamble.proofs.Laws.{due-length}
-use Rattle.preamble.proofs.Telling.{same-more}
+use Rattle.preamble_form.specs.Forms.{same}
+use Rattle.preamble_form.proofs.Telling.{same-more}
 use borrow.Author.Needs.{needs}
-use Rattle.preamble.proofs.form.is_sof.Statement.{statement}
-use Rattle.preamble.proofs.form.is_sof.Tie as tie
-use Rattle.preamble.proofs.form.is_sof.Reads as reads
-use Rattle.preamble.proofs.form.is_sof.Lts as lts
+use Rattle.preamble_form.proofs.is_sof.Statement.{statement}
+use Rattle.preamble_form.proofs.is_sof.Tie as tie
+use Rattle.preamble_form.proofs.is_sof.Reads as reads
+use Rattle.preamble_form.proofs.is_sof.Lts as lts
 use Rattle.preamble.proofs.sof.due.Reads as due-reads
 
 abbrev Inv-loop : tie.InvT-loop
 Inv-loop inverted bytes sof is₀ i₀ is i = (i ≤ 32) × (is ≡ same (take i bytes) (take i (due inverted)))

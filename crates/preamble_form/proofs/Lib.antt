@@ -1,0 +1,4 @@
+pub mod Telling
+pub mod Alternates
+pub mod Promised
+pub mod Agree
