@@ -1,3 +1,4 @@
 pub mod Outcome
 pub mod Choice
 pub mod Table
+pub mod Moves

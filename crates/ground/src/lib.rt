@@ -38,6 +38,10 @@ pub const COUNT_ABOVE_8: u8 = 17;
 pub const ADDRESS_WRONG: u8 = 18;
 // no packets of an IP stream
 pub const PACKETS_WRONG: u8 = 19;
+// a disperser's profile whose taps are not 32
+pub const PROFILE_WRONG: u8 = 20;
+// a frame buffer of the wrong size
+pub const FRAME_WRONG: u8 = 21;
 
 // the block sizes, in bits (clause 4.4.2), and the words that carry them, in bytes, with their six spare bits
 pub const PAYLOAD_BLOCK: usize = 12282;

@@ -1,0 +1,5 @@
+pub mod Mixer
+pub mod Mixes
+pub mod Round
+pub mod Unmixes
+pub mod Agree
