@@ -70,14 +70,6 @@ fn onward(at: usize, step: usize, len: usize) -> usize
     if next < len { next } else { next - len }
 }
 
-// The bit at a place inside.
-fn bit_inside(codeword: &[u8], at: usize) -> u8
-    requires { ⌜ at / 8 < length (now codeword) ⌝ }
-    ensures { λ r. ⌜ r ≡ bitAt (now (codeword .entry)) at ⌝ }
-{
-    (codeword[at / 8] >> (7 - at % 8)) % 2
-}
-
 // The eight bits that stand inc apart from a place on, round the end of the codeword.
 fn mixed_byte(codeword: &[u8], inc: usize, len: usize, at: usize) -> u8
     requires { ⌜ Round inc len (now codeword) × (at < len) ⌝ }
@@ -87,7 +79,7 @@ fn mixed_byte(codeword: &[u8], inc: usize, len: usize, at: usize) -> u8
     let mut from = at;
     let mut i: usize = 0;
     while i < 8 {
-        v = v * 2 + bit_inside(codeword, from);
+        v = v * 2 + (codeword[from / 8] >> (7 - from % 8)) % 2;
         from = onward(from, inc, len);
         i += 1;
     }

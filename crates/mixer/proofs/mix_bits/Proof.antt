@@ -56,8 +56,7 @@ loop-again c =
     let a = c .before .before .before .before .before .before .args in
     let f : (ℕ → ℕ) = λ i. bitAt (a .codeword .now) (mixedFrom (a .inc) (a .len) i) in
     let t : l .k < length (l .out) = c .before .before .loop-test .taken in
-    let v : ℕ = c .before .mixed-byte .result in
-    (
+    let v : ℕ = c .before .mixed-byte .result in (
       omega (arith, l .inv .1),
       length-set (l .out) (l .k) v ∙ l .inv .1,
       fill-more (λ j. number f (8 * j) 8) 0 (l .out) (l .k) v t (c .before .mixed-byte .ensures ∙ byte-is (a .codeword .now) (a .inc) (a .len) (l .k) (l .at) (l .inv .3)) (l .inv .2),

@@ -12,7 +12,6 @@ use Rattle.mixer.proofs.mixed_byte.Statement.{statement}
 use Rattle.mixer.proofs.mixed_byte.Tie as tie
 use Rattle.mixer.proofs.mixed_byte.Reads as reads
 use Rattle.mixer.proofs.mixed_byte.Lts as lts
-use Rattle.mixer.proofs.bit_inside.Reads as bit-inside-reads
 use Rattle.mixer.proofs.onward.Reads as onward-reads
 
 abbrev Inv-loop : tie.InvT-loop
@@ -31,13 +30,20 @@ loop-holds c =
 mul-v : tie.Need-mul-v Inv-loop μ-loop
 mul-v c = omega (arith, pow-mono {i = c .before .loop .i} {j = 7} (omega arith))
 
-bit-inside-requires : tie.Need-bit-inside-requires Inv-loop μ-loop
-bit-inside-requires c κs = omega (arith, c .before .loop .inv .4, c .before .before .before .pre .0 .whole)
+shared-slice-read-v : tie.Need-shared-slice-read-v Inv-loop μ-loop
+shared-slice-read-v c = omega (arith, c .before .before .loop .inv .4, c .before .before .before .before .pre .0 .whole)
+
+sub-v : tie.Need-sub-v Inv-loop μ-loop
+sub-v c = search needs
+
+cast-v : tie.Need-cast-v Inv-loop μ-loop
+cast-v c = search needs
+
+shr-v : tie.Need-shr-v Inv-loop μ-loop
+shr-v c = search needs
 
 add-v : tie.Need-add-v Inv-loop μ-loop
-add-v c =
-    let b : c .bit-inside .result < 2 = rw (c .bit-inside .ensures) (bit-lt _ _) in
-    omega (arith, pow-mono {i = c .before .before .loop .i} {j = 7} (omega arith), b)
+add-v c = omega (arith, pow-mono {i = c .before .before .loop .i} {j = 7} (omega arith))
 
 onward-requires : tie.Need-onward-requires Inv-loop μ-loop
 onward-requires c κs =
@@ -51,13 +57,13 @@ loop-less : tie.Need-loop-less Inv-loop μ-loop
 loop-less c = search needs
 
 loop-again : tie.Need-loop-again Inv-loop μ-loop
+unfolding bitAt
 loop-again c =
     let l = c .before .before .before .loop in
     let a = c .before .before .before .before .before .args in
     let f : (ℕ → ℕ) = λ k. bitAt (a .codeword .now) ((a .at + a .inc * k) % a .len) in
-    let e : l .v * 2 + c .before .bit-inside .result ≡ number f 0 (l .i + 1) =
-    ap₂ (λ (x y : ℕ). x * 2 + y) (l .inv .1) (c .before .bit-inside .ensures ∙ ap (bitAt (a .codeword .now)) (l .inv .3) ∙ ap f (sym (zero-add (l .i)))) ∙ sym (number-more f 0 (l .i)) in
-    (
+    let b : bitAt (a .codeword .now) (l .from) ≡ f (0 + l .i) = ap (bitAt (a .codeword .now)) (l .inv .3) ∙ ap f (sym (zero-add (l .i))) in
+    let e : l .v * 2 + bitAt (a .codeword .now) (l .from) ≡ number f 0 (l .i + 1) = ap₂ (λ (x y : ℕ). x * 2 + y) (l .inv .1) b ∙ sym (number-more f 0 (l .i)) in (
       omega arith,
       e,
       rw e (number-lt f (λ k. bit-lt (a .codeword .now) ((a .at + a .inc * k) % a .len)) 0 (l .i + 1)),
@@ -79,7 +85,10 @@ mixed-byte-spec =
     μ-loop
     loop-holds
     mul-v
-    bit-inside-requires
+    shared-slice-read-v
+    sub-v
+    cast-v
+    shr-v
     add-v
     onward-requires
     add-i

@@ -14,7 +14,10 @@ add-next : tie.Need-add-next
 add-next c = search needs
 
 returns : tie.Need-returns
-returns c = (sym (mod-eq-of-lt (c .if1 .taken)), c .if1 .taken)
+returns c =
+    let a = c .before .args in
+    let less : a .at + a .step < a .len = omega (arith, c .if1 .taken) in
+    (sym (mod-eq-of-lt less), less)
 
 returns-2 : tie.Need-returns-2
 returns-2 c =

@@ -1,0 +1,3 @@
+pub mod Dispersing
+pub mod Reading
+pub mod Agree
