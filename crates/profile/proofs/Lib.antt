@@ -1,0 +1,4 @@
+pub mod Delays
+pub mod Making
+pub mod Giving
+pub mod Agree

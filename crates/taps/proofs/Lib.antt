@@ -1,0 +1,5 @@
+pub mod Sections
+pub mod Walking
+pub mod Totals
+pub mod Growing
+pub mod Agree
