@@ -3,7 +3,7 @@
 use Prim.Native.Nat.{ℕ, zero, suc, _+_, _*_, _/_, _%_, _≤_, _<_}
 use mathlib.Core.Path.{_≡_, refl, sym, ap, ap₂, _∙_, subst}
 use mathlib.Core.Bool.{Bool, true, false, not}
-use mathlib.Core.Logic.{⊎-elim}
+use mathlib.Core.Logic.{⊎-elim, inl}
 use mathlib.Core.List.{List, [], _∷_}
 use native.Mathlib.Omega.{arith}
 use borrow.Author.Tests.{eqb-true, eq-eqb, ne-eqb, lt-ltb, le-ltb}
@@ -20,7 +20,7 @@ use Rattle.patterns.specs.Rates.{rates, rateOf}
 use Rattle.patterns.specs.Sent.{codeLength}
 use Rattle.patterns.specs.Blocks.{Coded, blockBy, blockFaults}
 use Rattle.patterns.proofs.Length.{length-rule}
-use Rattle.patterns.proofs.Blocks.{fit-coded}
+use Rattle.patterns.proofs.Blocks.{fit-coded, coded-fit}
 use Rattle.mixer.specs.Mixer.{increment, mixedFrom, mixed}
 use Rattle.mixer.specs.Inside.{Mixable}
 use Rattle.mixer.specs.Mixing.{codewordBytes, blockOf, mixFaults, mixing}
@@ -119,3 +119,17 @@ module _ (p : ℕ) (c out : List ℕ) (k : p ≤ 27) (n : firstOf (blockFaults p
   mix-done inc m e h =
       acceptance-leaves (firstOf (mixFaults p c out)) (mixed p (blockOf p c) c) out (clear p c out k n o)
       (h ∙ ap₂ (λ (x y : ℕ). packed (λ i. bitAt c (mixedFrom x (codeLength p (blockOf p c)) i)) y) e (o ∙ codeword-length))
+
+-- ---- a payload codeword of its length, into as much room
+
+module _ (p : ℕ) (c out : List ℕ) (h : p < 28) (e : length c ≡ codewordBytes p) (o : length out ≡ length c) where
+  block-is : blockOf p c ≡ 12282
+  unfolding blockBy
+  block-is = choose-true _ _ (eq-eqb (length c) (codewordBytes p) e)
+
+  fits : firstOf (blockFaults p (blockOf p c)) ≡ 0
+  fits = ap (λ (n : ℕ). firstOf (blockFaults p n)) block-is ∙ coded-fit p 12282 (inl (h, refl))
+
+  pub mix-is : mixing p c out .memory ≡ mixed p 12282 c
+  unfolding mixing
+  mix-is = choose-true _ _ (eq-eqb (firstOf (mixFaults p c out)) 0 (clear p c out (omega arith) fits o)) ∙ ap (λ (n : ℕ). mixed p n c) block-is

@@ -1,0 +1,4 @@
+pub mod Chain
+pub mod Refusing
+pub mod Taking
+pub mod Stepping

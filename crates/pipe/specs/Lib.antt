@@ -1,0 +1,4 @@
+pub mod Frame
+pub mod Piping
+pub mod Run
+pub mod Inside
