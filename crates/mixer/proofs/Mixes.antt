@@ -6,13 +6,13 @@ use mathlib.Core.Bool.{Bool, true, false, not}
 use mathlib.Core.Logic.{⊎-elim, inl}
 use mathlib.Core.List.{List, [], _∷_}
 use native.Mathlib.Omega.{arith}
-use borrow.Author.Tests.{eqb-true, eq-eqb, ne-eqb, lt-ltb, le-ltb}
+use borrow.Author.Tests.{ltb-false, eqb-true, eq-eqb, ne-eqb, lt-ltb, le-ltb}
 use lib.Dec.{T, eqb, ltb, leb, eqb→eq, ltb→lt, leb→le}
 use lib.ListN.{length}
 use Rattle.ground.specs.Outcome.{Is}
 use Rattle.ground.specs.Choice.{choose, both, refuse, firstOf}
 use Rattle.ground.specs.Table.{allBelow}
-use Rattle.ground.proofs.Choice.{choose-true, choose-false, both-left, both-right}
+use Rattle.ground.proofs.Choice.{choose-true, choose-false, both-left, both-right, past, no-difference}
 use Rattle.ground.proofs.Table.{at-all}
 use Rattle.ground.proofs.Refusing.{refusal-leaves, acceptance-leaves}
 use Rattle.bits.specs.Places.{bitAt, packed}
@@ -133,3 +133,27 @@ module _ (p : ℕ) (c out : List ℕ) (h : p < 28) (e : length c ≡ codewordByt
   pub mix-is : mixing p c out .memory ≡ mixed p 12282 c
   unfolding mixing
   mix-is = choose-true _ _ (eq-eqb (firstOf (mixFaults p c out)) 0 (clear p c out (omega arith) fits o)) ∙ ap (λ (n : ℕ). mixed p n c) block-is
+
+-- ---- what an accepted call says
+
+pub record Accepted (p : ℕ) (c out : List ℕ) : Type 0 where
+  pub coded : Coded p (blockOf p c)
+  pub long : length c ≡ codeLength p (blockOf p c) / 8
+  pub left : mixing p c out .memory ≡ mixed p (blockOf p c) c
+
+pub mix-accepted : (p : ℕ) (c out : List ℕ) → firstOf (mixFaults p c out) ≡ 0 → Accepted p c out
+unfolding mixFaults mixing
+mix-accepted p c out e =
+    let x : 0 < 3 = omega arith in
+    let y : 0 < 21 = omega arith in
+    let a = past _ 3 _ x e in
+    let b = past _ 21 _ y (a .1) in
+    let d = past _ 21 _ y (b .1) in
+    let k : p ≤ 27 = ltb-false 27 p (a .0) in
+    let n : firstOf (blockFaults p (blockOf p c)) ≡ 0 = no-difference _ _ (b .0) in
+    let o : length out ≡ length c = no-difference _ _ (d .0) in
+    record {
+      coded = coded p c out k n o;
+      long = codeword-length p c out k n o;
+      left = choose-true _ _ (eq-eqb (firstOf (mixFaults p c out)) 0 e);
+    }

@@ -84,7 +84,7 @@ module _ (pipe : List ℕ) (sections : List (List ℕ)) (h : punctPat pipe < 28)
   greatest = refl
 
 pub whole-way : (pipe : List ℕ) (sections : List (List ℕ)) → punctPat pipe < 28 → (codewords : ℕ → List ℕ) (f : ℕ)
-    → Framed (wayOf pipe sections) codewords f → ((g : ℕ) → Below 256 (codewords g)) → maxDelay pipe sections ≤ f
+    → Framed (wayOf pipe sections) codewords f → Below 256 (codewords (f - maxDelay pipe sections)) → maxDelay pipe sections ≤ f
     → unmixedFrame (punctPat pipe) (wayOf pipe sections .slots)
     (receivedFrame (wayOf pipe sections) (pipeFrame (wayOf pipe sections) (λ g. mixedFrame (punctPat pipe) (wayOf pipe sections .slots) (codewords g))) f)
     ≡ codewords (f - maxDelay pipe sections)
@@ -100,4 +100,4 @@ whole-way pipe sections h codewords f framed below late =
     frame-back y mixes (within pipe sections h) f (λ i l. mixed-frame-length p m (codewords i) ∙ sym z) in
     let came : receivedFrame y (pipeFrame y mixes) f ≡ mixes g =
     back ∙ choose-true _ _ (ap (λ (x : ℕ). leb x f) d ∙ le-leb (maxDelay pipe sections) f late) ∙ ap (λ (x : ℕ). mixes (f - x)) d in
-    ap (unmixedFrame p m) came ∙ frame-unmixes p m h (codewords g) (below g) (framed g (omega arith) ∙ z)
+    ap (unmixedFrame p m) came ∙ frame-unmixes p m h (codewords g) below (framed g (omega arith) ∙ z)

@@ -144,12 +144,12 @@ module _ (p slots : ℕ) (codewords ring : List ℕ) (at : ℕ) (h : Takes p slo
     none-by = subst (λ (x : ℕ). ring ≡ paste ring at (mixedFrame p slots codewords) (0 * x)) (sym e) taken-none
 
     pub turn-taken : (w : ℕ) (now y : List ℕ) (r : ℕ) → w < slots → now ≡ paste ring at (mixedFrame p slots codewords) (w * z)
-      → Is (mixing p (take (w * z + z - w * z) (drop (w * z) codewords)) (take (at + w * z + z - (at + w * z)) (drop (at + w * z) now))) r y
-      → putMid (at + w * z) (at + w * z + z - (at + w * z)) now y ≡ paste ring at (mixedFrame p slots codewords) ((w + 1) * z)
+        → Is (mixing p (take (w * z + z - w * z) (drop (w * z) codewords)) (take (at + w * z + z - (at + w * z)) (drop (at + w * z) now))) r y
+        → putMid (at + w * z) (at + w * z + z - (at + w * z)) now y ≡ paste ring at (mixedFrame p slots codewords) ((w + 1) * z)
     turn-taken =
         subst
         (λ (z : ℕ).
         (w : ℕ) (now y : List ℕ) (r : ℕ) → w < slots → now ≡ paste ring at (mixedFrame p slots codewords) (w * z)
-      → Is (mixing p (take (w * z + z - w * z) (drop (w * z) codewords)) (take (at + w * z + z - (at + w * z)) (drop (at + w * z) now))) r y
-      → putMid (at + w * z) (at + w * z + z - (at + w * z)) now y ≡ paste ring at (mixedFrame p slots codewords) ((w + 1) * z))
+        → Is (mixing p (take (w * z + z - w * z) (drop (w * z) codewords)) (take (at + w * z + z - (at + w * z)) (drop (at + w * z) now))) r y
+        → putMid (at + w * z) (at + w * z + z - (at + w * z)) now y ≡ paste ring at (mixedFrame p slots codewords) ((w + 1) * z))
         (sym e) taken-turn

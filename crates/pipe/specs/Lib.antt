@@ -1,4 +1,4 @@
 pub mod Frame
 pub mod Piping
-pub mod Run
+pub mod Calls
 pub mod Inside

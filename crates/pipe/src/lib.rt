@@ -8,6 +8,7 @@ ghost use Prim.Native.Nat.{_*_, _<_};
 ghost use lib.Seq.{paste};
 ghost use Rattle.ground.specs.Outcome.{Is};
 ghost use Rattle.ground.specs.Choice.{firstOf};
+ghost use Rattle.bits.specs.Lists.{Below};
 ghost use Rattle.mixer.specs.Mixing.{codewordBytes};
 ghost use Rattle.pipe.specs.Frame.{mixedFrame};
 ghost use Rattle.pipe.specs.Piping.{piping};
@@ -20,7 +21,15 @@ const PATTERN_MOST: u32 = 27;
 const CAPACITY_UNIT: usize = 256;
 
 // Why a frame of a pipe is not made, 0 where it is: by the refusal of its profile, the greatest delay, its pattern and width, and the lengths that are lent.
-fn refusal(profile: u8, greatest: u16, pattern: u32, width: u32, codewords: usize, memory: usize, out: usize) -> u8
+fn refusal(
+    profile: u8,
+    greatest: u16,
+    pattern: u32,
+    width: u32,
+    codewords: usize,
+    memory: usize,
+    out: usize,
+) -> u8
     requires { ⌜ width < 1024 ⌝ }
     ensures { λ r. ⌜ r ≡ firstOf (faultsBy profile greatest pattern width codewords memory out) ⌝ }
 {
@@ -65,8 +74,9 @@ fn take(pattern: u32, slots: usize, codewords: &[u8], ring: &mut [u8], at: usize
 }
 
 // Takes the codewords of a frame into the lent memory, fills the frame of the pipe out of it and returns 0; or returns why not, and leaves both as they were.
+// That the codewords are bytes is stated too: the way back needs it.
 pub fn write(pipe: &[u8], frame: u32, codewords: &[u8], memory: &mut [u8], out: &mut [u8]) -> u8
-    ensures { λ r. ⌜ Is (piping (now (pipe .entry)) frame (now (codewords .entry)) (now (memory .entry)) (now (out .entry))) r (now (memory .exit), now (out .exit)) ⌝ }
+    ensures { λ r. ⌜ Is (piping (now (pipe .entry)) frame (now (codewords .entry)) (now (memory .entry)) (now (out .entry))) r (now (memory .exit), now (out .exit)) × Below 256 (now (codewords .entry)) ⌝ }
 {
     let p = profile::of(pipe);
     let q = records::pipe_at(pipe, 0, 0);

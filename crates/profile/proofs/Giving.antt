@@ -4,33 +4,36 @@ use Prim.Native.Nat.{ℕ, zero, suc, _+_, _*_, _≤_, _<_}
 use mathlib.Core.Path.{_≡_, refl, sym, ap, ap₂, _∙_, subst}
 use mathlib.Core.Bool.{Bool, false, true, not}
 use mathlib.Core.List.{List, [], _∷_, _++_}
+use native.Mathlib.Nat.{mod-eq-of-lt}
 use native.Mathlib.Omega.{arith}
 use borrow.Author.Tests.{eq-eqb, ne-eqb}
 use lib.Dec.{eqb}
-use lib.ListN.{length, getD, set, take, length-set}
-use lib.Seq.{ext-getD, getD-take, length-take-le, take-all, take-suc-set}
+use lib.ListN.{length, getD, set, take, length-set, length-append, List·getD-append}
+use lib.Seq.{ext-getD, getD-take, length-take-le, take-all, take-suc-set, getD-append-seam}
 use Rattle.ground.specs.Outcome.{Is}
 use Rattle.ground.specs.Choice.{choose, either, firstOf}
 use Rattle.ground.specs.Table.{tab}
-use Rattle.ground.proofs.Choice.{choose-true, choose-false, hit, skip, either-false, no-difference}
+use Rattle.ground.proofs.Choice.{choose-true, choose-false, hit, skip, either-false, no-difference, past}
+use Rattle.ground.proofs.Table.{length-tab}
 use Rattle.ground.proofs.Refusing.{refusal-leaves, acceptance-leaves}
 use Rattle.bits.proofs.Places.{field-lt}
 use Rattle.description.specs.Rows.{Row, Each}
-use Rattle.description.specs.Fields.{table16, table19}
+use Rattle.description.specs.Fields.{table16, table19, disperserInvFlag}
 use Rattle.description.specs.Description.{ownSections}
 use Rattle.views.specs.Rows.{rowFrom, rowAt, rowsAt}
 use Rattle.records.specs.declared.Pipe.{Pipe}
 use Rattle.records.specs.Records.{pipeOf, pipeAt}
 use Rattle.slots.specs.declared.Profile.{Profile}
-use Rattle.taps.specs.Lengths.{tapTotal}
+use Rattle.slots.specs.Disperser.{tapDelayRec}
+use Rattle.taps.specs.Lengths.{tapTotal, intermedLen}
 use Rattle.taps.specs.Sections.{sectionsAt}
 use Rattle.taps.proofs.Sections.{section-row}
 use Rattle.taps.proofs.Walking.{sections-length}
 use Rattle.profile.specs.declared.Profiled.{Profiled}
-use Rattle.profile.specs.Profile.{profileOf}
+use Rattle.profile.specs.Profile.{tapLength, byColumns, flipped, profileOf}
 use Rattle.profile.specs.Lent.{lentFields, lentSections, profileFault, noProfile, profiled, numbersOf, profileFaults, profiling}
-use Rattle.profile.specs.Wanted.{LentAtMost}
-use Rattle.profile.proofs.Delays.{own-most, at-most}
+use Rattle.profile.specs.Wanted.{LentAtMost, Bounded}
+use Rattle.profile.proofs.Delays.{own-most, at-most, tap-most}
 
 -- any bytes have a record
 pub record-row : (l : List ℕ) → Row table16 (lentFields l)
@@ -163,3 +166,46 @@ module _ (l out : List ℕ) where
     write-0 n m g =
         acceptance-leaves (firstOf (profileFaults l out)) (numbersOf (profileOf (lentFields l) (lentSections l))) out (after-20 sound ∙ choose-false _ _ (ap not (eq-eqb (length out) 33 n)))
         (g ∙ ap (λ (x : Profiled). numbersOf (x .profile)) (e ∙ clear sound))
+
+-- ---- and what is known of them
+
+module _ (l out m : List ℕ) (r : ℕ) (i : Is (profiling l out) r m) (z : r ≡ 0) where
+  abbrev p : Profile
+  p = profileOf (lentFields l) (lentSections l)
+
+  none : firstOf (profileFaults l out) ≡ 0
+  unfolding profiling
+  none = sym (i .answer) ∙ z
+
+  numbers : m ≡ numbersOf p
+  unfolding profiling
+  numbers = i .memory ∙ choose-true _ _ (eq-eqb (firstOf (profileFaults l out)) 0 none)
+
+  unrefused : profileFault l ≡ false
+  unfolding profileFaults
+  unrefused = let x : 0 < 20 = omega arith in past _ 20 _ x none .0
+
+  taps-long : length (p .taps) ≡ 32
+  unfolding profileOf
+  taps-long = length-tab (λ k. tapLength (lentFields l) (intermedLen (lentSections l) (byColumns (flipped (disperserInvFlag (lentFields l)) k)))) 0 32
+
+  first : (k : ℕ) → k < 32 → getD m k 0 ≡ getD (p .taps) k 0
+  unfolding numbersOf
+  first k h = ap (λ (x : List ℕ). getD x k 0) numbers ∙ List·getD-append (p .taps) (p .greatest ∷ []) 0 k (omega (arith, taps-long))
+
+  last : getD m 32 0 ≡ p .greatest
+  unfolding numbersOf
+  last = ap (λ (x : List ℕ). getD x 32 0) numbers ∙ ap (λ (n : ℕ). getD (p .taps ++ (p .greatest ∷ [])) n 0) (sym taps-long) ∙ getD-append-seam (p .taps) (p .greatest) [] 0
+
+  -- the receiver's delay of unit k below 32 is length k
+  tap-at : (k : ℕ) → k < 32 → getD (p .taps) k 0 ≤ p .greatest
+  unfolding tapDelayRec
+  tap-at k h = subst (λ (n : ℕ). getD (p .taps) n 0 ≤ p .greatest) (mod-eq-of-lt h) (tap-most (lentFields l) (lentSections l) k)
+
+  pub call-bounded : Bounded m
+  unfolding numbersOf
+  call-bounded = record {
+    all = ap length numbers ∙ length-append (p .taps) (p .greatest ∷ []) ∙ ap (λ (n : ℕ). n + 1) taps-long;
+    within = λ k h. omega (arith, first k h, last, tap-at k h);
+    most = omega (arith, last, lent-at-most l unrefused);
+  }

@@ -1,4 +1,5 @@
 pub mod Delays
 pub mod Making
 pub mod Giving
+pub mod Promised
 pub mod Agree

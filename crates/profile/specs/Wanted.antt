@@ -4,7 +4,7 @@ use Prim.Native.Nat.{ℕ, _+_, _-_, _*_, _/_, _%_, _≤_, _<_}
 use mathlib.Core.Path.{_≡_}
 use mathlib.Core.Bool.{false}
 use mathlib.Core.List.{List}
-use lib.ListN.{length}
+use lib.ListN.{length, getD}
 use Rattle.ground.specs.Moves.{MovesOnce}
 use Rattle.description.specs.Rows.{Each, Row}
 use Rattle.description.specs.Fields.{table16, table19, pipeWidth}
@@ -39,3 +39,9 @@ fromColumns j = 4 * (j % 8) + j / 8
 
 abbrev pub Reordered : Type 0
 Reordered = (inv : ℕ) → MovesOnce 32 (λ k. byColumns (flipped inv k)) (λ j. flipped inv (fromColumns j))
+
+-- of the 33 numbers that a call hands out each of the first 32 is at most the last one, and that is at most 6,160
+pub record Bounded (numbers : List ℕ) : Type 0 where
+  pub all : length numbers ≡ 33
+  pub within : (k : ℕ) → k < 32 → getD numbers k 0 ≤ getD numbers 32 0
+  pub most : getD numbers 32 0 ≤ 6160

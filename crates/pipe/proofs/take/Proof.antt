@@ -96,12 +96,11 @@ loop-less : tie.Need-loop-less Inv-loop μ-loop
 loop-less c = omega (arith, c .before .before .before .before .before .loop-test .taken)
 
 loop-again : tie.Need-loop-again Inv-loop μ-loop
-loop-again c = 
+loop-again c =
     let t = c .before .before .before .before .before in
     let l = t .before .loop in
     let b = t .before .before .before .before .before in
-    let a = b .args in
-    (
+    let a = b .args in (
       omega (arith, t .loop-test .taken),
       turn-taken (a .pattern) (a .slots) (a .codewords .now) (a .ring .now) (a .at) (b .pre) (t .before .before .code-length .result / 8) (size-is (t .before .before)) (l .w) (l .ring) _ _ (t .loop-test .taken) (l .inv .1) (c .before .before .mix .ensures),
     )
@@ -110,7 +109,7 @@ same-length : tie.Need-same-length Inv-loop μ-loop
 same-length c = let b = c .before .before .before .before .before in let a = b .args in let l = c .before .loop in ap length (l .inv .1) ∙ length-by (a .pattern) (a .slots) (a .codewords .now) (a .ring .now) (a .at) (b .pre) (c .before .before .code-length .result / 8) (size-is (c .before .before)) (l .w) (l .inv .0)
 
 returns : tie.Need-returns Inv-loop μ-loop
-returns c = 
+returns c =
     let l = c .before .loop in
     let b = c .before .before .before .before .before in
     let a = b .args in

@@ -5,7 +5,9 @@ use mathlib.Core.List.{List}
 use native.Mathlib.Omega.{arith}
 use lib.ListN.{length}
 use Rattle.ground.specs.Choice.{firstOf}
+use Rattle.bits.specs.Lists.{Below}
 use Rattle.bits.proofs.Places.{field-lt}
+use Rattle.bits.proofs.Below.{below-of}
 use Rattle.pipe.specs.Piping.{lentWay, pipeFaults}
 use Rattle.pipe.proofs.Stepping.{width-is, width-small, faults-are, Fits, accepted, units-more, few-units, slots-few, row-most, takes, way-is, ring-is, call-is, refused}
 use borrow.Author.Needs.{needs}
@@ -33,6 +35,10 @@ cast-depth c = search needs
 add-depth : tie.Need-add-depth
 add-depth c = search needs
 
+-- the codewords are bytes
+bytes : (c : tie.After-shared-slice-known2) → Below 256 (c .before .before .args .codewords .now)
+bytes c = below-of 256 (c .before .before .args .codewords .now) (λ i. omega (arith, c .shared-slice-known2 .given i))
+
 narrow : (c : tie.After-pipe-at) → c .pipe-at .result .width < 1024
 narrow c = let l = c .before .before .before .before .before .before .args .pipe .now in omega (arith, width-is l (c .pipe-at .result) (c .pipe-at .ensures), width-small l)
 
@@ -50,7 +56,7 @@ refusal-requires : tie.Need-refusal-requires
 refusal-requires c κs = narrow (c .before .before)
 
 returns : tie.Need-returns
-returns c = let a = c .before .before .before .before .before .before .before .before .before .before .args in refused (a .pipe .now) (a .frame) (a .codewords .now) (a .memory .now) (a .out .now) (c .before .refusal .result) (number (c .before)) (c .if1 .taken)
+returns c = let a = c .before .before .before .before .before .before .before .before .before .before .args in (refused (a .pipe .now) (a .frame) (a .codewords .now) (a .memory .now) (a .out .now) (c .before .refusal .result) (number (c .before)) (c .if1 .taken), bytes (c .before .before .before .before .before .before .before .before))
 
 cast-units : tie.Need-cast-units
 cast-units c = search needs
@@ -116,13 +122,15 @@ same-length-2 : tie.Need-same-length-2
 same-length-2 c = search needs
 
 returns-2 : tie.Need-returns-2
-returns-2 c = 
+returns-2 c =
     let u = c .before .before .before .before .before .before .before .before .before .before .before .before in
     let a = u .before .before .before .before .before .before .before .before .before .before .before .before .args in
-    let t = c .before .before .before .before .before .before .before .before .take in
-    call-is (a .pipe .now) (a .frame) (a .codewords .now) (a .memory .now) (a .out .now) (fits (u .before .before)) (none (u .before .before)) _ _ _
-    (way-is (u .before .before .before .before .before .before .before .before .before .before .before .before .args .pipe .now) (u .before .before .before .before .before .before .before .before .before .before .before .before .args .frame) (u .before .before .before .before .before .before .before .before .before .before .before .before .args .codewords .now) (u .before .before .before .before .before .before .before .before .before .before .before .before .args .memory .now) (u .before .before .before .before .before .before .before .before .before .before .before .before .args .out .now) (fits (u .before .before)) (u .before .before .before .before .before .before .before .of .result) (u .before .before .before .before .before .before .pipe-at .result) (u .before .before .before .before .before .before .before .of .ensures) (u .before .before .before .before .before .before .pipe-at .ensures) (u .units .result) (u .units .ensures) (c .before .before .before .before .before .field .result) (c .before .before .before .before .before .field .ensures))
-    (ring-is (u .before .before .before .before .before .before .before .before .before .before .before .before .args .pipe .now) (u .before .before .before .before .before .before .before .before .before .before .before .before .args .frame) (u .before .before .before .before .before .before .before .before .before .before .before .before .args .codewords .now) (u .before .before .before .before .before .before .before .before .before .before .before .before .args .memory .now) (u .before .before .before .before .before .before .before .before .before .before .before .before .args .out .now) (fits (u .before .before)) (u .before .before .before .before .before .before .before .of .result) (u .before .before .before .before .before .before .pipe-at .result) (u .before .before .before .before .before .before .before .of .ensures) (u .before .before .before .before .before .before .pipe-at .ensures) (u .units .result) (u .units .ensures) _ (t .ensures)) (c .before .before .disperse .ensures)
+    let t = c .before .before .before .before .before .before .before .before .take in (
+      call-is (a .pipe .now) (a .frame) (a .codewords .now) (a .memory .now) (a .out .now) (fits (u .before .before)) (none (u .before .before)) _ _ _
+          (way-is (u .before .before .before .before .before .before .before .before .before .before .before .before .args .pipe .now) (u .before .before .before .before .before .before .before .before .before .before .before .before .args .frame) (u .before .before .before .before .before .before .before .before .before .before .before .before .args .codewords .now) (u .before .before .before .before .before .before .before .before .before .before .before .before .args .memory .now) (u .before .before .before .before .before .before .before .before .before .before .before .before .args .out .now) (fits (u .before .before)) (u .before .before .before .before .before .before .before .of .result) (u .before .before .before .before .before .before .pipe-at .result) (u .before .before .before .before .before .before .before .of .ensures) (u .before .before .before .before .before .before .pipe-at .ensures) (u .units .result) (u .units .ensures) (c .before .before .before .before .before .field .result) (c .before .before .before .before .before .field .ensures))
+          (ring-is (u .before .before .before .before .before .before .before .before .before .before .before .before .args .pipe .now) (u .before .before .before .before .before .before .before .before .before .before .before .before .args .frame) (u .before .before .before .before .before .before .before .before .before .before .before .before .args .codewords .now) (u .before .before .before .before .before .before .before .before .before .before .before .before .args .memory .now) (u .before .before .before .before .before .before .before .before .before .before .before .before .args .out .now) (fits (u .before .before)) (u .before .before .before .before .before .before .before .of .result) (u .before .before .before .before .before .before .pipe-at .result) (u .before .before .before .before .before .before .before .of .ensures) (u .before .before .before .before .before .before .pipe-at .ensures) (u .units .result) (u .units .ensures) _ (t .ensures)) (c .before .before .disperse .ensures),
+      bytes (u .before .before .before .before .before .before .before .before .before .before),
+    )
 
 pub write-spec : {M : Type 1} → statement M
 write-spec =
