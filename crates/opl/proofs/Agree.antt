@@ -40,6 +40,15 @@ use Rattle.opl.proofs.opl_ip_read.Reads as opl-ip-read-reads
 use Rattle.opl.proofs.opl_ip_lost as opl-ip-lost
 use Rattle.opl.proofs.opl_ip_lost.Kinds as opl-ip-lost-kinds
 use Rattle.opl.proofs.opl_ip_lost.Reads as opl-ip-lost-reads
+use Rattle.opl.proofs.opl_mix as opl-mix
+use Rattle.opl.proofs.opl_mix.Kinds as opl-mix-kinds
+use Rattle.opl.proofs.opl_mix.Reads as opl-mix-reads
+use Rattle.opl.proofs.opl_profile as opl-profile
+use Rattle.opl.proofs.opl_profile.Kinds as opl-profile-kinds
+use Rattle.opl.proofs.opl_profile.Reads as opl-profile-reads
+use Rattle.opl.proofs.opl_pipe as opl-pipe
+use Rattle.opl.proofs.opl_pipe.Kinds as opl-pipe-kinds
+use Rattle.opl.proofs.opl_pipe.Reads as opl-pipe-reads
 
 module _ (κs : Lfts 1) (a : ArgsD opl-preamble.signature κs) where
   pub opl-preamble-agrees : (r r′ : ResD opl-preamble.signature κs) (s s′ : AtExit (endedOf 1 opl-preamble-kinds.ps opl-preamble-kinds.r) κs) →
@@ -101,3 +110,18 @@ module _ (κs : Lfts 1) (a : ArgsD opl-ip-lost.signature κs) where
   pub opl-ip-lost-agrees : (r r′ : ResD opl-ip-lost.signature κs) (s s′ : AtExit (endedOf 1 opl-ip-lost-kinds.ps opl-ip-lost-kinds.r) κs) →
       opl-ip-lost-reads.Post κs a r s → opl-ip-lost-reads.Post κs a r′ s′ → (r ≡ r′) × (now (s .0) ≡ now (s′ .0))
   opl-ip-lost-agrees r r′ s s′ p q = agree p q
+
+module _ (κs : Lfts 2) (a : ArgsD opl-mix.signature κs) where
+  pub opl-mix-agrees : (r r′ : ResD opl-mix.signature κs) (s s′ : AtExit (endedOf 2 opl-mix-kinds.ps opl-mix-kinds.r) κs) →
+      opl-mix-reads.Post κs a r s → opl-mix-reads.Post κs a r′ s′ → (r ≡ r′) × (now (s .1 .1 .0) ≡ now (s′ .1 .1 .0))
+  opl-mix-agrees r r′ s s′ p q = agree p q
+
+module _ (κs : Lfts 2) (a : ArgsD opl-profile.signature κs) where
+  pub opl-profile-agrees : (r r′ : ResD opl-profile.signature κs) (s s′ : AtExit (endedOf 2 opl-profile-kinds.ps opl-profile-kinds.r) κs) →
+      opl-profile-reads.Post κs a r s → opl-profile-reads.Post κs a r′ s′ → (r ≡ r′) × (now (s .1 .0) ≡ now (s′ .1 .0))
+  opl-profile-agrees r r′ s s′ p q = agree p q
+
+module _ (κs : Lfts 4) (a : ArgsD opl-pipe.signature κs) where
+  pub opl-pipe-agrees : (r r′ : ResD opl-pipe.signature κs) (s s′ : AtExit (endedOf 4 opl-pipe-kinds.ps opl-pipe-kinds.r) κs) →
+      opl-pipe-reads.Post κs a r s → opl-pipe-reads.Post κs a r′ s′ → (r ≡ r′) × (now (s .1 .1 .1 .0) ≡ now (s′ .1 .1 .1 .0)) × (now (s .1 .1 .1 .1 .0) ≡ now (s′ .1 .1 .1 .1 .0))
+  opl-pipe-agrees r r′ s s′ p q = let e = agree (p .0) (q .0) in (e .0, ap (λ m. m .0) (e .1), ap (λ m. m .1) (e .1))

@@ -1,3 +1,4 @@
+pub mod Pipes
 pub mod Agree
 pub mod Demand
 pub mod Preambles

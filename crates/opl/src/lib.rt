@@ -15,6 +15,9 @@ ghost use Rattle.ip_open.specs.Opening.{dropping};
 ghost use Rattle.ip_read.specs.Reading.{readInto as ipReadInto};
 ghost use Rattle.turbo.specs.Encode.{encoded};
 ghost use Rattle.placement.specs.Place.{placing};
+ghost use Rattle.mixer.specs.Mixing.{mixing};
+ghost use Rattle.profile.specs.Lent.{profiling};
+ghost use Rattle.pipe.specs.Piping.{piping};
 ghost use Rattle.preamble.specs.Preamble.{written};
 ghost use Rattle.preamble_form.specs.Forms.{formInto};
 
@@ -125,4 +128,34 @@ pub extern "C" fn opl_place(pattern: u32, values: &[i8], lane: &mut [i16]) -> u8
     ensures { λ r. ⌜ Is (placing pattern (now (values .entry)) (now (lane .entry))) r (now (lane .exit)) ⌝ }
 {
     placement::place(pattern, values, lane)
+}
+
+// A codeword mixed into as many bytes.
+#[no_mangle]
+pub extern "C" fn opl_mix(pattern: u32, codeword: &[u8], mixed: &mut [u8]) -> u8
+    ensures { λ r. ⌜ Is (mixing pattern (now (codeword .entry)) (now (mixed .entry))) r (now (mixed .exit)) ⌝ }
+{
+    mixer::mix(pattern, codeword, mixed)
+}
+
+// The disperser's profile of a pipe into 33 numbers: the receiver's 32 tap lengths and the greatest delay.
+#[no_mangle]
+pub extern "C" fn opl_profile(pipe: &[u8], profile: &mut [u16]) -> u8
+    ensures { λ r. ⌜ Is (profiling (now (pipe .entry)) (now (profile .entry))) r (now (profile .exit)) ⌝ }
+{
+    profile::write(pipe, profile)
+}
+
+// One frame of a pipe from its codewords, with the memory of the frames before it.
+#[no_mangle]
+pub extern "C" fn opl_pipe(
+    pipe: &[u8],
+    frame: u32,
+    codewords: &[u8],
+    memory: &mut [u8],
+    out: &mut [u8],
+) -> u8
+    ensures { λ r. ⌜ Is (piping (now (pipe .entry)) frame (now (codewords .entry)) (now (memory .entry)) (now (out .entry))) r (now (memory .exit), now (out .exit)) × Below 256 (now (codewords .entry)) ⌝ }
+{
+    pipe::write(pipe, frame, codewords, memory, out)
 }
