@@ -34,7 +34,7 @@
 
 /* The version of this header and of the library that comes with it: numbers, and a text of them with dots. */
 #define OPL_VERSION_MAJOR 0
-#define OPL_VERSION_MINOR 4
+#define OPL_VERSION_MINOR 5
 #define OPL_VERSION_PATCH 0
 #define OPL_VERSION OPL_DOTTED(OPL_VERSION_MAJOR, OPL_VERSION_MINOR, OPL_VERSION_PATCH)
 
@@ -90,8 +90,12 @@ enum opl_refusal {
     OPL_ENCAP_VER = 16,    /* Encap_Ver is not 0 */
     OPL_PACKET_COUNT = 17, /* more than eight transport stream packets for one payload word */
     OPL_FIRST_HEADER = 18, /* First_Header_Address is 1,503 to 4,094 */
-    OPL_IP_PACKET = 19     /* an IP packet's type or length is none, a byte of an IP stream's padding is not FF, or
+    OPL_IP_PACKET = 19,    /* an IP packet's type or length is none, a byte of an IP stream's padding is not FF, or
                               First_Header_Address contradicts the open packet */
+    OPL_PROFILE = 20,      /* a pipe that is not its record and just the sections that it owns, or these do not have
+                              32 taps together */
+    OPL_FRAME = 21         /* a codeword, a frame or the memory of a pipe has the wrong size, or the pipe's width is no
+                              multiple of its codeword's capacity units */
 };
 
 /* The length of the start-of-frame preamble, in bytes. */
@@ -523,6 +527,101 @@ uint8_t opl_encode(uint32_t pattern, const uint8_t *infoword, size_t n, uint8_t 
  * Provisional: a later version will have sums clipped to -127 to 127 and places one byte wide.
  */
 uint8_t opl_place(uint32_t pattern, const int8_t *values, size_t n, int16_t *lane, size_t m);
+
+/*
+ * From codeword to pipe (clauses 4.5 to 4.8). Each codeword is mixed; a mixed codeword is cut into interleaver units of
+ * 512 bits, 64 bytes; each of the codewords of a pipe's frame has a slot of its own, and each slot a disperser, which
+ * delays unit k of its codewords by Tap_Delay[k] frames; the collector reads the units of all slots into the frame of
+ * the pipe. A capacity unit is four interleaver units, 256 bytes, and a codeword has 6 divided by its code rate of
+ * them.
+ */
+#define OPL_UNIT_BYTES 64
+#define OPL_CAPACITY_UNIT_BYTES 256
+
+/*
+ * Mixes a codeword (clause 4.5): bit i of what is written is bit (CILM_Inc x i) mod Codeword_Len of the codeword.
+ * CILM_Inc is that of the pattern's code rate (table 12), and 61 for a signalling codeword. Each bit of the codeword
+ * goes to just one place.
+ *
+ *   pattern    the puncturing pattern, 0 to 27
+ *   codeword   n bytes: those of a payload word's codeword under this pattern (opl_encode has them), or 480
+ *              (OPL_SIGNALLING_CODEWORD_BYTES), a signalling word's, for pattern 0
+ *   mixed      m bytes, m = n
+ *
+ * Refusals, in this order:
+ *
+ *   OPL_PATTERN   pattern is above 27
+ *   OPL_FRAME     n is no codeword's length under this pattern, or m is not n
+ */
+uint8_t opl_mix(uint32_t pattern, const uint8_t *codeword, size_t n, uint8_t *mixed, size_t m);
+
+/*
+ * The numbers of a profile, 32 tap lengths and the greatest delay; the greatest delay that there is; and the bytes of a
+ * pipe as it is lent, at least and at most: its record and one to eight sections.
+ */
+#define OPL_PROFILE_NUMBERS 33
+#define OPL_DELAY_MOST 6160
+#define OPL_PIPE_LEAST 8
+#define OPL_PIPE_MOST 22
+
+/*
+ * Writes the disperser profile of a pipe (clause 4.10.7): the delays that a receiver's dispersers have.
+ *
+ *   pipe      n bytes: the pipe's record of six bytes (table 16) and behind it just the sections that the pipe owns
+ *             (table 19), two bytes each, cut out of a sheet as they stand there. The top four bits of a section are
+ *             not looked at, nor is Gap_Width of the first one
+ *   profile   m numbers, m = 33 (OPL_PROFILE_NUMBERS):
+ *               number  0   the receiver's delays of units 0 to 31, in frames, after re-ordering and, where
+ *                           Disperser_Inv_Flag is set, after the flip. They repeat: unit k has that of k mod 32
+ *               number 32   Max_Delay, the greatest delay
+ *
+ * No delay is above the greatest, which is at most 6,160 (OPL_DELAY_MOST). The dispersers of the transmitter, those of
+ * opl_pipe, delay each unit by the greatest delay less the receiver's, so that a codeword is whole again the greatest
+ * delay after it was sent.
+ *
+ * Refusals, in this order:
+ *
+ *   OPL_PROFILE   n is not 6 + 2 x the number of sections that the pipe owns: none where its width is 0, else
+ *                 Num_Disperser_Sections_1 + 1; or they do not have 32 taps together. So a pipe that is not in use
+ *                 has no profile
+ *   OPL_LENGTH    m is not 33
+ */
+uint8_t opl_profile(const uint8_t *pipe, size_t n, uint16_t *profile, size_t m);
+
+/*
+ * Makes one frame of a pipe, ready for the modulator: mixes the codewords of the frame, takes them into the memory, and
+ * reads the pipe's frame out of it, each unit as late as its tap says.
+ *
+ *   pipe        n bytes, as opl_profile takes them
+ *   frame       the number of the frame. Frames are counted on from 0; only the remainder by (greatest delay + 1)
+ *               matters, so a caller counts modulo that where it runs for long (2^32 need be no multiple of it)
+ *   codewords   c bytes: the codewords of the frame as opl_encode gives them, one for each slot, slot 0 first. A pipe
+ *               has Pipe_Width_CUs / (6 / code rate) slots, so c = 256 x Pipe_Width_CUs
+ *   memory      k bytes, k = (greatest delay + 1) x c: the frames before this one
+ *   out         m bytes, m = c: the frame of the pipe, with Regrouping_Flag 0 slot by slot, and with 1 unit by unit: unit
+ *               0 of all slots, then unit 1 of all slots, and so on
+ *
+ * The library keeps nothing of a pipe. Its memory is all zeros before frame 0, and from then on it is lent as the call
+ * before left it. It is a ring of frames of mixed codewords: row `frame` mod (greatest delay + 1) takes those of this
+ * frame. Any bytes are such a ring: what is in it comes out. Where the record or the sections of the pipe change, a
+ * memory of zeros, of the new length, is to be lent. Each pipe has a memory of its own.
+ *
+ * Where frames are made so one after the other, unit k of slot w in frame f is unit k of the mixed codeword of that slot
+ * in frame f - Tap_Delay[k], and zeros before frame 0. A receiver that takes the units to their slots again, delays them
+ * by its taps and undoes the mixer has each codeword whole, the greatest delay later.
+ *
+ * A memory is large for a wide pipe with long delays: with the greatest delay of 6,160 frames and the greatest width of
+ * 1,023 capacity units it has 1,613,491,968 bytes, 1.6 GB. It is never longer. Of it a call reads and writes no more
+ * than it lends as codewords and out.
+ *
+ * Refusals, in this order; each leaves memory and out as they were:
+ *
+ *   OPL_PROFILE   as opl_profile gives it
+ *   OPL_PATTERN   the pipe's pattern is above 27
+ *   OPL_FRAME     the pipe's width is no multiple of its codeword's capacity units; or c, k or m is not as above
+ */
+uint8_t opl_pipe(const uint8_t *pipe, size_t n, uint32_t frame, const uint8_t *codewords, size_t c, uint8_t *memory,
+                 size_t k, uint8_t *out, size_t m);
 
 #ifdef __cplusplus
 }

@@ -41,6 +41,8 @@ static inline const char *opl_refusal_text(uint8_t number)
         "OPL_PACKET_COUNT: more than eight transport stream packets for one payload word",
         "OPL_FIRST_HEADER: First_Header_Address is 1,503 to 4,094",
         "OPL_IP_PACKET: an IP packet or the padding is not sound, or First_Header_Address contradicts the open packet",
+        "OPL_PROFILE: a pipe is not its record and its own sections, or these do not have 32 taps together",
+        "OPL_FRAME: a codeword, a frame or a pipe's memory has the wrong size, or the width is no multiple",
     };
     return number < sizeof texts / sizeof texts[0] ? texts[number] : "a number that opl.h does not have";
 }
