@@ -39,3 +39,8 @@ pub const ADDRESS: u8 = 18;
 /// A packet of an IP stream that is none, a stray byte in the padding, or an announced address that the open packet
 /// contradicts.
 pub const IP_PACKET: u8 = 19;
+/// What is lent of a pipe is not its record and its sections, or these have not 32 taps together.
+pub const PROFILE: u8 = 20;
+/// A frame buffer of the wrong size: a codeword, the codewords or the pipe of a frame, or the memory of a pipe; or a width
+/// that is no multiple of a codeword's.
+pub const FRAME: u8 = 21;
