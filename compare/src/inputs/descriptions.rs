@@ -414,7 +414,7 @@ fn good_width(rng: &mut Rng, pattern: u32) -> u32 {
 }
 
 /// `count` sections (at most 8) of 32 taps together.
-fn good_sections(rng: &mut Rng, count: usize) -> Vec<Section> {
+pub(super) fn good_sections(rng: &mut Rng, count: usize) -> Vec<Section> {
     // Sixteen pairs of taps, cut at count - 1 of the 15 places between them.
     let mut cuts: Vec<usize> = (1..16).collect();
     rng.shuffle(&mut cuts);

@@ -5,6 +5,7 @@ mod descriptions;
 mod ip_queues;
 mod ip_words;
 mod payload;
+mod pipes;
 mod preamble;
 mod sheets;
 mod transport;
@@ -24,6 +25,10 @@ pub use payload::{
     address, mutated_payload_word, payload_word, payload_word_of, refused_payload_word,
     set_ip_header, set_payload_header, wrong_address, PAYLOAD_REFUSALS,
 };
+pub use pipes::{
+    codewords, flat_pipe, framed_pipe, framed_pipe_of, lose_profile, pipe_bytes, profiled_pipe,
+    set_pattern, set_width, wrong_pattern, wrong_width, NoProfile, NO_PROFILE,
+};
 pub use preamble::{preamble_bytes, preamble_choice};
 pub use sheets::{mutated_sheet, refused_sheet, sheet, SHEET_REFUSALS};
 pub use transport::{
@@ -35,9 +40,9 @@ pub use words::{mutated_word, refused_word, room, word, WORD_REFUSALS};
 use crate::rng::Rng;
 
 /// Lengths that the library's buffers have, the lanes' left out: one may be taken for another.
-const LENGTHS: [usize; 20] = [
-    8, 16, 21, 32, 96, 121, 128, 188, 480, 1_504, 1_532, 1_536, 1_792, 2_571, 3_072, 3_840, 4_095,
-    4_104, 6_604, 7_680,
+const LENGTHS: [usize; 22] = [
+    6, 8, 16, 21, 32, 33, 96, 121, 128, 188, 480, 1_504, 1_532, 1_536, 1_792, 2_571, 3_072, 3_840,
+    4_095, 4_104, 6_604, 7_680,
 ];
 
 /// A length that is none of the right ones: close to one, equal to one when cut to 8 or 16 bits, 0, another
