@@ -21,6 +21,9 @@ const ORDERS: &[(&str, &[u8])] = &[
     ("opl_ip_lost", &[1]),
     ("opl_encode", &[1, 3, 4, 1, 2]),
     ("opl_place", &[1, 3, 4, 1]),
+    ("opl_mix", &[3, 21]),
+    ("opl_profile", &[20, 1]),
+    ("opl_pipe", &[20, 3, 21]),
 ];
 
 #[test]

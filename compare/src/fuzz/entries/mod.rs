@@ -3,6 +3,7 @@
 
 mod ip;
 mod payload;
+mod pipe;
 mod preamble;
 mod signalling;
 mod turbo;
