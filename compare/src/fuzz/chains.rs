@@ -1,6 +1,7 @@
 //! Cases of several calls, each given what the one before it wrote.
 
 use super::entries::held;
+use super::pipes::{codeword_to_pipe, pipe_and_back, profile_and_memory};
 use super::streams::{damaged_ip_stream, ip_stream};
 use super::{Entry, Fault, Trial, Verdict};
 use crate::calls::{
@@ -13,7 +14,7 @@ use crate::second::payload::{self, PARTS, TRANSPORT};
 use crate::second::preamble::{Form, FORM_BYTES};
 use crate::second::signalling;
 
-pub(super) const CHAINS: [fn(&mut Trial) -> Verdict; 11] = [
+pub(super) const CHAINS: [fn(&mut Trial) -> Verdict; 14] = [
     preamble_and_form,
     sheet_and_back,
     word_and_back,
@@ -25,6 +26,9 @@ pub(super) const CHAINS: [fn(&mut Trial) -> Verdict; 11] = [
     sum_of_words,
     ip_stream,
     damaged_ip_stream,
+    pipe_and_back,
+    profile_and_memory,
+    codeword_to_pipe,
 ];
 
 /// A header's parity where all parts hold.

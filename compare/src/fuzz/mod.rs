@@ -6,6 +6,7 @@ mod chains;
 mod difference;
 mod entries;
 mod entry;
+mod pipes;
 mod run;
 mod streams;
 mod tally;
