@@ -17,6 +17,7 @@
 
 /* the functions, as build.rs reads them from opl.h */
 #include "calls.h"
+#include "opl_text.h"
 
 static void fail(const char *why)
 {
@@ -361,11 +362,13 @@ static uint8_t infoword[OPL_PAYLOAD_WORD_BYTES], codeword[OPL_PAYLOAD_CODEWORD_M
 static int8_t values[8 * OPL_PAYLOAD_CODEWORD_MOST];
 static int16_t lane[OPL_PAYLOAD_LANE];
 
+/* The patterns, and how many blocks are coded under them: the signalling block under one. */
+enum { PATTERNS = 28, CODINGS = PATTERNS + 1 };
+
 /* Has every length tried with each pattern and block: one is accepted, the others are refused. */
 static void measure_coding(void)
 {
     enum { BLOCKS = sizeof blocks / sizeof blocks[0], LENGTHS = sizeof codewords / sizeof codewords[0] };
-    enum { PATTERNS = 28, CODINGS = PATTERNS + 1 };
     int encoded = 0, placed = 0;
     for (uint32_t pattern = 0; pattern <= PATTERNS; pattern++)
         for (int b = 0; b < BLOCKS; b++)
@@ -377,6 +380,69 @@ static void measure_coding(void)
             }
     if (encoded != CODINGS || placed != CODINGS)
         fail("a pattern is not accepted at its block and length");
+}
+
+/* Has every length mixed under each pattern, and with a mixed codeword that is shorter. */
+static void measure_mixing(void)
+{
+    static uint8_t mixed[OPL_PAYLOAD_CODEWORD_MOST];
+    int accepted = 0;
+    for (uint32_t pattern = 0; pattern <= PATTERNS; pattern++)
+        for (size_t i = 0; i < sizeof codewords / sizeof codewords[0]; i++) {
+            struct arguments a = {{pattern}, {{codeword, codewords[i]}, {mixed, codewords[i]}}};
+            accepted += measure(MIX, a) == OPL_ACCEPTED;
+            a.buffer[1].n--;
+            measure(MIX, a);
+        }
+    if (accepted != CODINGS)
+        fail("a pattern is not accepted at its codeword's length");
+}
+
+/* Has a call made that is accepted, and with each buffer at a wrong length. */
+static void measure_lengths(int which, struct arguments a)
+{
+    if (measure(which, a) != OPL_ACCEPTED)
+        fail("a pipe is refused");
+    for (size_t i = 0; i < functions[which].buffers; i++) {
+        a.buffer[i].n--;
+        measure(which, a);
+        a.buffer[i].n++;
+    }
+}
+
+/* Has the profile of a pipe told and a frame of it written: two slots, and 32 taps in that many sections. */
+static void measure_pipe(uint32_t pattern, uint8_t flags, uint8_t sections)
+{
+    enum { SLOTS = 2, CAPACITY_UNIT = 256, TAPS = 32, RECORD = 6, SECTIONS = 8, ROWS = 25 };
+    static uint8_t pipe[RECORD + 2 * SECTIONS], words[SLOTS * OPL_PAYLOAD_CODEWORD_MOST];
+    static uint8_t memory[ROWS * sizeof words], out[sizeof words];
+    static uint16_t profile[TAPS + 1];
+    size_t n = RECORD + 2 * sections, bytes = SLOTS * opl_codeword_bytes(pattern), width = bytes / CAPACITY_UNIT;
+    uint8_t first = (uint8_t)(pattern << 2 | width >> 8), second = (uint8_t)width;
+    memcpy(pipe, (const uint8_t[]){first, second, sections - 1, flags, 0, 0}, RECORD);
+    /* the greatest difference and gap, of which the record's multipliers leave a sixteenth */
+    for (size_t i = RECORD; i < n; i += 2)
+        memcpy(pipe + i, (const uint8_t[]){TAPS / sections / 2 - 1, 0xFF}, 2);
+    measure_lengths(PROFILE, (struct arguments){.buffer = {{pipe, n}, {profile, TAPS + 1}}});
+    size_t rows = profile[TAPS] + 1U;
+    if (rows > ROWS)
+        fail("a profile has a greater delay than there is");
+    struct arguments a = {{rows + 7}, {{pipe, n}, {words, bytes}, {memory, rows * bytes}, {out, bytes}}};
+    measure_lengths(PIPE, a);
+    pipe[0] |= 0xFC;
+    measure(PIPE, a);
+}
+
+/* Has pipes of each pattern and with both flags tried, of one section and of eight. */
+static void measure_pipes(void)
+{
+    enum { INVERTED = 0x80, REGROUPING = 0x40 };
+    static const uint8_t flags[] = {0, REGROUPING, INVERTED, INVERTED | REGROUPING};
+    for (uint32_t pattern = 0; pattern < PATTERNS; pattern++)
+        for (size_t i = 0; i < sizeof flags; i++) {
+            measure_pipe(pattern, flags[i], 1);
+            measure_pipe(pattern, flags[i], 8);
+        }
 }
 
 static void measure_spare(void)
@@ -406,6 +472,8 @@ int main(int words, char **word)
     measure_payload();
     measure_streams();
     measure_coding();
+    measure_mixing();
+    measure_pipes();
     measure_spare();
     for (int i = 1; i < words; i++)
         measure_file(word[i]);
