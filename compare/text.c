@@ -39,6 +39,7 @@ static void say_empty(void)
     printf("empty %d\n", opl_ip_write(9, 0, OPL_EMPTY, 0, word, sizeof word, progress, sizeof progress));
     printf("empty %d\n", opl_signalling_write(OPL_EMPTY, 0, OPL_EMPTY, 0));
     printf("empty %d\n", opl_place(0, EMPTY_AS(const int8_t *), 0, EMPTY_AS(int16_t *), 0));
+    printf("empty %d\n", opl_profile(OPL_EMPTY, 0, EMPTY_AS(uint16_t *), 0));
 }
 
 static void say_form(enum opl_form named, const uint8_t *bytes)

@@ -87,7 +87,7 @@ fn the_version_is_that_of_the_numbers() {
 /// length of zero is.
 #[test]
 fn an_empty_buffer_is_lent() {
-    assert!(lines("empty").eq(["0", "0", "0", "0", "1", "1"]));
+    assert!(lines("empty").eq(["0", "0", "0", "0", "1", "1", "20"]));
 }
 
 #[test]
