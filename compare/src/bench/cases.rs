@@ -1,7 +1,7 @@
 //! The rows: for each exported function the cases that it is measured on.
 
 use super::row::{row, Row, Tables, Title};
-use super::{library, streams};
+use super::{library, pipes, streams};
 use crate::inputs::{
     infoword, packets, points_at_the_bound, set_payload_header, transport_word, values, Coding,
 };
@@ -46,6 +46,7 @@ pub fn rows(encoder: &Encoder) -> Rows<'_> {
     rows.extend(WRITTEN_TYPES.map(payload_write));
     rows.extend(READ_TYPES.map(payload_read));
     rows.extend(streams::rows());
+    rows.extend(pipes::rows());
     rows.extend([("upright", 0), ("inverted", 1)].map(sof_preamble));
     rows.extend(preambles().map(preamble_form));
     rows

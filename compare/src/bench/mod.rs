@@ -4,6 +4,7 @@
 mod cases;
 mod counts;
 mod library;
+mod pipes;
 mod report;
 mod row;
 mod streams;
