@@ -1,9 +1,7 @@
 #include "ip.h"
 
-#include <errno.h>
 #include <stdio.h>
 #include <stdlib.h>
-#include <string.h>
 
 #include "opl_text.h"
 #include "say.h"
@@ -11,9 +9,6 @@
 
 /* The types of packets, as table 6 has them. */
 enum { IPV4 = 1, IPV6 = 2 };
-
-/* How much of a file is read at a time. */
-enum { CHUNK = 65536 };
 
 /* A word that is followed by another has at most one byte without a packet: the last, where no header fits. */
 enum { WORD_LEAST = OPL_IP_PAYLOAD_BYTES - 1 };
@@ -23,31 +18,10 @@ size_t ip_number(const uint8_t *bytes)
     return (size_t)bytes[0] << 8 | bytes[1];
 }
 
-/* Reads the next chunk of a file behind what is there of it; n becomes its length, less than a chunk at the end. */
-static bool load_chunk(struct ip_queue *queue, FILE *file, size_t *n)
-{
-    uint8_t *bytes = realloc(queue->bytes, queue->n + CHUNK);
-    if (bytes == NULL)
-        return fail("%s: no memory for it", queue->path);
-    queue->bytes = bytes;
-    *n = fread(bytes + queue->n, 1, CHUNK, file);
-    queue->n += *n;
-    return !ferror(file) || fail("%s: %s", queue->path, strerror(errno));
-}
-
 static bool load_queue(struct ip_queue *queue)
 {
-    FILE *file = fopen(queue->path, "rb");
-    size_t n = CHUNK;
-    bool ok = true;
-    if (file == NULL)
-        return fail("%s: %s", queue->path, strerror(errno));
-    while (ok && n == CHUNK)
-        ok = load_chunk(queue, file, &n);
-    fclose(file);
-    if (ok && queue->n == 0)
-        return fail("%s: it has no packet", queue->path);
-    return ok;
+    return load_all(queue->path, &queue->bytes, &queue->n) &&
+           (queue->n != 0 || fail("%s: it has no packet", queue->path));
 }
 
 /* Whether a packet's four bytes say a type and a length that there are. */

@@ -11,6 +11,9 @@
 /* What marked buffers hold. */
 enum { MARK = 0xA5 };
 
+/* How much of a file is read at a time. */
+enum { CHUNK = 65536 };
+
 bool fail(const char *why, ...)
 {
     va_list words;
@@ -34,6 +37,37 @@ bool load(const char *path, uint8_t *bytes, size_t room, size_t *n)
     if (file != stdin)
         fclose(file);
     return read;
+}
+
+/* Reads the next chunk of a file behind what is there of it; more becomes whether the file goes on. */
+static bool load_chunk(FILE *file, const char *path, uint8_t **bytes, size_t *n, bool *more)
+{
+    uint8_t *longer = realloc(*bytes, *n + CHUNK);
+    if (longer == NULL)
+        return fail("%s: no memory for it", path);
+    *bytes = longer;
+    size_t read = fread(longer + *n, 1, CHUNK, file);
+    *n += read;
+    *more = read == CHUNK;
+    return !ferror(file) || fail("%s: %s", path, strerror(errno));
+}
+
+bool load_all(const char *path, uint8_t **bytes, size_t *n)
+{
+    FILE *file = fopen(path, "rb");
+    bool more = true, ok = true;
+    *bytes = NULL;
+    *n = 0;
+    if (file == NULL)
+        return fail("%s: %s", path, strerror(errno));
+    while (ok && more)
+        ok = load_chunk(file, path, bytes, n, &more);
+    fclose(file);
+    if (!ok) {
+        free(*bytes);
+        *bytes = NULL;
+    }
+    return ok;
 }
 
 bool read_number(const char *name, const char *of, const char *word, size_t least, size_t most, size_t *number)

@@ -14,6 +14,9 @@ bool fail(const char *why, ...);
 /* Reads a file, or standard input where path is null, as far as there is room; n becomes the bytes read. */
 bool load(const char *path, uint8_t *bytes, size_t room, size_t *n);
 
+/* Reads all of a file into memory that the caller frees. False if that fails, which is said: then there is none. */
+bool load_all(const char *path, uint8_t **bytes, size_t *n);
+
 /*
  * Reads how many of something are asked for, from the least to the most that will do. False if the word is no such
  * number, which is said under the name that the usage has for it.
