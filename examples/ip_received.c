@@ -131,11 +131,11 @@ static bool take_word(void *taker, const uint8_t *word)
 }
 
 /* Takes all words of the stream. True if all that is to come out has come out, or if the words cannot be read. */
-static bool take_all(struct reading *reading, const struct recorded *recorded)
+static bool take_all(struct reading *reading, const struct words *words)
 {
     const struct ip_stream *sent = reading->sent;
     size_t gone = reading->loss.lost + reading->loss.refused;
-    if (!take_words(recorded, (uint8_t)sent->id, take_word, reading, &reading->unread))
+    if (!take_words(words, (uint8_t)sent->id, take_word, reading, &reading->unread))
         return false;
     return reading->unread != 0 ||
            (reading->words + gone == sent->words && reading->dummies == sent->dummies && !find_due(reading)) ||
@@ -200,14 +200,14 @@ static bool say_rest(const struct reading *reading)
 }
 
 /* Reads the stream with all its words, and writes the packets. */
-static bool read_all(struct reading *reading, const struct recorded *recorded)
+static bool read_all(struct reading *reading, const struct words *words)
 {
     const char *path = reading->sent->back_path;
     reading->file = fopen(path, "wb");
     if (reading->file == NULL)
         return fail("%s: %s", path, strerror(errno));
-    printf("\nstream %d read back from all %zu frames\n", reading->sent->id, recorded->count);
-    bool ok = take_all(reading, recorded);
+    printf("\nstream %d read back from all %zu frames\n", reading->sent->id, words->frames);
+    bool ok = take_all(reading, words);
     if (fclose(reading->file) != 0 && ok)
         ok = fail("%s: %s", path, strerror(errno));
     return ok;
@@ -224,19 +224,39 @@ static void say_loss(const struct ip_stream *sent, const struct loss *loss)
     printf("word %zu refused: opl_ip_lost is told before the next is read\n", loss->damaged);
 }
 
-bool read_ip(const struct recorded *recorded, const struct ip_stream *sent)
+/* What comes back of a stream, as if no more had been sent: the words with packets come first, and dummies behind. */
+static struct ip_stream part_of(const struct ip_stream *sent, size_t come)
+{
+    struct ip_stream part = *sent;
+    part.words = come < sent->words ? come : sent->words;
+    part.dummies = come - part.words;
+    return part;
+}
+
+/* Reads the stream with all words, and then with some lost. */
+static bool read_twice(const struct words *words, const struct ip_stream *sent, size_t on_the_way)
 {
     struct reading all = {.sent = sent}, rest = {.sent = sent};
-    if (sent->words == 0) /* it has no slot in these frames */
-        return true;
-    if (!read_all(&all, recorded))
+    if (!read_all(&all, words))
         return false;
     if (all.unread != 0) {
         say_unread();
         return true;
     }
-    say_all(&all);
+    if (sent->words != 0)
+        say_all(&all);
+    say_on_the_way(on_the_way, 0);
+    if (sent->words == 0)
+        return true;
     rest.loss = loss_of(sent->words < WORDS_SHOWN ? sent->words : WORDS_SHOWN);
     say_loss(sent, &rest.loss);
-    return take_all(&rest, recorded) && say_rest(&rest);
+    return take_all(&rest, words) && say_rest(&rest);
+}
+
+bool read_ip(const struct words *words, const struct ip_stream *sent)
+{
+    if (sent->words == 0) /* it has no slot in these frames */
+        return true;
+    struct ip_stream part = part_of(sent, words_of(words, (uint8_t)sent->id));
+    return read_twice(words, &part, sent->words - part.words);
 }

@@ -10,11 +10,11 @@
 #include "words.h"
 
 /*
- * Reads the payload words of a stream in all slots that it has in the frames, prints a picture of them, and writes the
- * packets that come out to a file. Then it reads them again, with some words lost and one refused, and writes nothing.
- * True if the packets that come out are those that were sent; the second time just those that had nothing in these
- * words.
+ * Reads the payload words of a stream that came out of the frames, prints a picture of them, and writes the packets
+ * that come out to a file. Then it reads them again, with some words lost and one refused, and writes nothing. True if
+ * the packets that come out are those that were sent in these words; the second time just those that had nothing in
+ * the words that were lost or refused.
  */
-bool read_ip(const struct recorded *recorded, const struct ip_stream *sent);
+bool read_ip(const struct words *words, const struct ip_stream *sent);
 
 #endif

@@ -8,6 +8,7 @@
 /* What comes back of a stream. */
 struct received {
     const struct sent_stream *sent;
+    size_t come;                           /* payload words of it that come back, of any type */
     struct transport due;                  /* the packets that were sent, read along */
     size_t words, dummies;                 /* payload words of type 2, and of type 0 */
     size_t unread;                         /* payload words of which bits are missing */
@@ -79,13 +80,30 @@ static bool take_word(void *taker, const uint8_t *word)
     return true;
 }
 
-static bool is_all(const struct received *received)
+/* How many of the words that come back have to have packets: those come first, and dummies behind them. */
+static size_t words_due(const struct received *received)
 {
-    const struct sent_stream *sent = received->sent;
-    return (received->words == sent->words && received->dummies == sent->dummies &&
-            kept(&received->due) == kept(&sent->source) &&
-            received->nulls == sent->source.nulls + sent->filling) ||
-           fail("stream %d does not give as many words and packets back as were sent", sent->id);
+    return received->come < received->sent->words ? received->come : received->sent->words;
+}
+
+/* Takes the packets that the words carry behind the last that was kept: they can only be null packets. */
+static bool take_rest(struct received *received, size_t packets)
+{
+    uint8_t packet[OPL_TS_PACKET_BYTES];
+    while (received->due.taken < packets)
+        if (!transport_take(&received->due, packet) || !is_null_packet(packet))
+            return false;
+    return received->due.taken == packets;
+}
+
+/* Whether all that has to come back has: the words, their packets, and the null packets that fill up the last word. */
+static bool is_all(struct received *received)
+{
+    size_t words = words_due(received), room = OPL_TS_PACKETS * words, there = received->due.packets;
+    size_t packets = room < there ? room : there;
+    return (received->words == words && received->dummies == received->come - words &&
+            take_rest(received, packets) && received->nulls == received->due.nulls + room - packets) ||
+           fail("stream %d does not give as many words and packets back as were sent", received->sent->id);
 }
 
 /* Shows what is said of a damaged part: it does not hold, and the others do. */
@@ -119,13 +137,14 @@ static bool say_received(struct received *received)
         return false;
     printf("  %-*s %zu given back, all as they were sent; %zu null packet%s dropped\n", GIVEN, "packets",
            kept(&received->due), received->nulls, plural(received->nulls));
+    say_on_the_way(received->sent->words, received->words);
     return true;
 }
 
 /* Takes the stream from all frames. */
-static bool take_frames(struct received *received, const struct recorded *recorded)
+static bool take_frames(struct received *received, const struct words *words)
 {
-    if (!take_words(recorded, received->sent->id, take_word, received, &received->unread))
+    if (!take_words(words, received->sent->id, take_word, received, &received->unread))
         return false;
     if (received->unread == 0)
         return is_all(received) && say_received(received);
@@ -133,15 +152,19 @@ static bool take_frames(struct received *received, const struct recorded *record
     return true;
 }
 
-bool read_stream(const struct recorded *recorded, const struct sent_stream *sent)
+bool read_stream(const struct words *words, const struct sent_stream *sent)
 {
-    struct received received = {.sent = sent};
+    struct received received = {.sent = sent, .come = words_of(words, sent->id)};
     if (sent->words == 0) /* it has no slot in these frames */
         return true;
+    printf("\nstream %d read back from all %zu frames\n", sent->id, words->frames);
+    if (received.come == 0) {
+        say_on_the_way(sent->words, 0);
+        return true;
+    }
     if (!transport_open(&received.due, sent->source.path))
         return false;
-    printf("\nstream %d read back from all %zu frames\n", sent->id, recorded->count);
-    bool ok = take_frames(&received, recorded);
+    bool ok = take_frames(&received, words);
     transport_close(&received.due);
     return ok;
 }

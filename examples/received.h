@@ -10,9 +10,9 @@
 #include "words.h"
 
 /*
- * Reads the payload words of a stream in all slots that it has in the frames, says whether their parity holds and
- * shows what is said of a damaged part. True if the packets are those that were sent; null packets are dropped.
+ * Reads the payload words of a stream that came out of the frames, says whether their parity holds and shows what is
+ * said of a damaged part. True if the packets are those that were sent in these words; null packets are dropped.
  */
-bool read_stream(const struct recorded *recorded, const struct sent_stream *sent);
+bool read_stream(const struct words *words, const struct sent_stream *sent);
 
 #endif

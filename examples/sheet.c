@@ -1,15 +1,20 @@
 #include "sheet.h"
 
+#include <string.h>
+
 #include "opl_text.h"
 
 /* Bytes of the sheet, as opl.h lays it out. */
-enum { PIPE_COUNT = 0, PIPE_OFFSET = 4, STREAM_OFFSET = 6, TAIL = 19, PIPE_BYTES = 6, STREAM_BYTES = 2 };
+enum { PIPE_COUNT = 0, PIPE_OFFSET = 4, STREAM_OFFSET = 6, SECTION_OFFSET = 8, TAIL = 19, STREAM_BYTES = 2 };
 
 /* The multiplex fields that count: Event_Countdown in 11 bits, Frame_Index in 22 (table 15). */
 enum { EVENT_COUNTDOWN = 12, EVENT_TOP = 0x07, FRAME_INDEX = 15, FRAME_TOP = 0x3F };
 
 /* A pipe's countdown, in 10 bits from the third of this byte of its record on (table 16). */
-enum { COUNTDOWN = 3, COUNTDOWN_TOP = 0x3F, COUNTDOWN_LOW = 0xF0 };
+enum { COUNTDOWN = 3, COUNTDOWN_TOP = 0x3F, COUNTDOWN_LOW = 0xF0, COUNTDOWN_BITS = 0x3FF };
+
+/* The sections and the flag of a pipe, in the third and fourth byte of its record; the tail's flag, in its first. */
+enum { SECTIONS_LOW = 0x07, REGROUPING = 0x40, CODEWORD_ALIGN = 0x02 };
 
 static size_t table_at(const uint8_t *sheet, size_t offset)
 {
@@ -21,17 +26,24 @@ static const uint8_t *table(const uint8_t *sheet, size_t offset)
     return sheet + table_at(sheet, offset);
 }
 
-/* A record of table 16. A pipe of width 0 owns no stream, whatever Num_STS_1 says (clause 4.10.3). */
-static struct pipe payload_pipe(const uint8_t *record, const uint8_t *streams)
+/*
+ * A record of table 16. A pipe of width 0 owns no stream and no section, whatever its two counts say (clauses 4.10.3
+ * and 4.10.7).
+ */
+static struct pipe payload_pipe(const uint8_t *record, const uint8_t *streams, const uint8_t *sections)
 {
     struct pipe pipe = {
         .pattern = record[0] >> 2,
         .width = (record[0] & 0x03u) << 8 | record[1],
         .num_sts_1 = record[2] >> 3,
+        .regrouping = (record[3] & REGROUPING) != 0,
         .countdown = (record[3] & 0x3Fu) << 4 | record[4] >> 4,
+        .record = record,
+        .sections = sections,
         .streams = streams,
     };
     pipe.count = pipe.width == 0 ? 0 : pipe.num_sts_1 + 1;
+    pipe.section_count = pipe.width == 0 ? 0 : (record[2] & SECTIONS_LOW) + 1u;
     return pipe;
 }
 
@@ -42,6 +54,7 @@ static struct pipe tail_pipe(const uint8_t *record, const uint8_t *streams)
         .tail = true,
         .pattern = record[0] >> 2,
         .width = (record[0] & 0x01u) << 8 | record[1],
+        .aligned = (record[0] & CODEWORD_ALIGN) != 0,
         .streams = streams,
     };
     pipe.count = pipe.width == 0 ? 0 : 1;
@@ -51,21 +64,48 @@ static struct pipe tail_pipe(const uint8_t *record, const uint8_t *streams)
 size_t sheet_pipes(const uint8_t *sheet, struct pipe pipes[PIPES_MOST])
 {
     const uint8_t *record = table(sheet, PIPE_OFFSET), *streams = table(sheet, STREAM_OFFSET);
-    size_t p = sheet[PIPE_COUNT];
+    const uint8_t *sections = table(sheet, SECTION_OFFSET);
+    size_t p = sheet[PIPE_COUNT], at = START_BYTES;
     for (size_t i = 0; i < p; i++) {
-        pipes[i] = payload_pipe(record + PIPE_BYTES * i, streams);
+        pipes[i] = payload_pipe(record + PIPE_BYTES * i, streams, sections);
+        pipes[i].at = at;
+        at += pipe_bytes(&pipes[i]);
         streams += STREAM_BYTES * pipes[i].count;
+        sections += SECTION_BYTES * pipes[i].section_count;
     }
     pipes[p] = tail_pipe(sheet + TAIL, streams);
+    pipes[p].at = at;
     return p + 1;
 }
 
-size_t pipe_codewords(const struct pipe *pipe)
+size_t sheet_units(const uint8_t *sheet)
 {
-    size_t bytes = opl_codeword_bytes(pipe->pattern);
-    if (pipe->width == 0 || bytes == 0)
-        return 0;
-    return pipe->tail ? 1 : pipe->width * UNIT_BYTES / bytes;
+    struct pipe pipes[PIPES_MOST];
+    const struct pipe *last = &pipes[sheet_pipes(sheet, pipes) - 1];
+    return (last->at + pipe_bytes(last)) / UNIT_BYTES;
+}
+
+bool is_sent(const struct pipe *pipe)
+{
+    return pipe->width != 0 && opl_codeword_bytes(pipe->pattern) != 0;
+}
+
+size_t pipe_bytes(const struct pipe *pipe)
+{
+    return (size_t)UNIT_BYTES * pipe->width;
+}
+
+size_t pipe_slots(const struct pipe *pipe)
+{
+    return pipe->tail || !is_sent(pipe) ? 0 : pipe_bytes(pipe) / opl_codeword_bytes(pipe->pattern);
+}
+
+size_t pipe_record(const struct pipe *pipe, uint8_t record[PIPE_BYTES + SECTION_BYTES * SECTIONS_MOST])
+{
+    size_t bytes = SECTION_BYTES * pipe->section_count;
+    memcpy(record, pipe->record, PIPE_BYTES);
+    memcpy(record + PIPE_BYTES, pipe->sections, bytes);
+    return PIPE_BYTES + bytes;
 }
 
 /* The slots that a stream takes in a schedule period: STS_Width_Slots_1 + 1. */
@@ -96,7 +136,7 @@ const struct pipe *first_sent(const uint8_t *sheet, struct pipe pipes[PIPES_MOST
 {
     size_t n = sheet_pipes(sheet, pipes);
     for (size_t i = 0; i < n; i++)
-        if (pipe_codewords(&pipes[i]) != 0)
+        if (is_sent(&pipes[i]))
             return &pipes[i];
     return NULL;
 }
@@ -112,7 +152,7 @@ int last_other_stream(const uint8_t *sheet, int left_out)
     size_t payload_pipes = sheet_pipes(sheet, pipes) - 1;
     int last = NO_STREAM;
     for (size_t i = 0; i < payload_pipes; i++)
-        for (size_t k = 0; k < pipes[i].count && pipe_codewords(&pipes[i]) != 0; k++)
+        for (size_t k = 0; k < pipes[i].count && is_sent(&pipes[i]); k++)
             if (pipes[i].streams[STREAM_BYTES * k] != left_out)
                 last = pipes[i].streams[STREAM_BYTES * k];
     return last;
@@ -152,11 +192,16 @@ static void count_event(uint8_t *sheet)
 /* A period of more slots than the field counts, 1,023, cannot be announced, and is not kept to. */
 static size_t next_countdown(const struct pipe *pipe)
 {
-    size_t slots = pipe_codewords(pipe), countdown = pipe->countdown;
+    size_t slots = pipe_slots(pipe), countdown = pipe->countdown;
     if (countdown == 0 || countdown > slots)
         return countdown == 0 ? 0 : countdown - slots;
     size_t period = period_slots(pipe);
-    return period - (slots - countdown) % period;
+    return (period - (slots - countdown) % period) & COUNTDOWN_BITS;
+}
+
+void pipe_next(struct pipe *pipe)
+{
+    pipe->countdown = (unsigned)next_countdown(pipe);
 }
 
 static void count_slots(uint8_t *record, const struct pipe *pipe)
@@ -175,4 +220,11 @@ void sheet_next(uint8_t *sheet)
     count_event(sheet);
     for (size_t i = 0; i < payload_pipes; i++)
         count_slots(sheet + table_at(sheet, PIPE_OFFSET) + PIPE_BYTES * i, &pipes[i]);
+}
+
+void sheet_align(uint8_t *sheet, bool begins)
+{
+    struct pipe pipes[PIPES_MOST];
+    if (is_sent(&pipes[sheet_pipes(sheet, pipes) - 1]))
+        put_bits(sheet + TAIL, CODEWORD_ALIGN, begins ? CODEWORD_ALIGN : 0);
 }

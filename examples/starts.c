@@ -4,6 +4,7 @@
 
 #include "opl_text.h"
 #include "say.h"
+#include "table.h"
 
 /* Finds the next preamble from a place on, and its form; n where there is none. */
 static size_t next_start(const uint8_t *bytes, size_t n, size_t from, uint8_t *form)
@@ -16,20 +17,40 @@ static size_t next_start(const uint8_t *bytes, size_t n, size_t from, uint8_t *f
     return n;
 }
 
-bool find_frames(const uint8_t *bytes, size_t n, size_t frame_bytes, size_t number, size_t *found)
+/* How many bytes a frame has: as many as there are from the first preamble to the next. */
+static size_t frame_length(const uint8_t *bytes, size_t n)
+{
+    uint8_t form;
+    return next_start(bytes, n, 1, &form);
+}
+
+/* Says that a frame has to start where the next preamble, at another place or at none, is not. Returns false. */
+static bool say_misplaced(size_t at, size_t start, size_t n)
+{
+    if (at == n)
+        return fail("byte %zu has to be the start of a frame, and no preamble is there or behind it", start);
+    return fail("byte %zu has a preamble next, and byte %zu the start of a frame", at, start);
+}
+
+bool find_frames(const uint8_t *bytes, size_t n, struct recorded *recorded)
 {
     uint8_t form = OPL_NEITHER, before = OPL_NEITHER;
-    size_t at = next_start(bytes, n, 0, &form);
-    for (size_t i = 0; i * frame_bytes < n; i++) {
+    size_t frame_bytes = frame_length(bytes, n), at = next_start(bytes, n, 0, &form), i = 0;
+    for (; i * frame_bytes < n; i++) {
         if (at != i * frame_bytes)
-            return fail("byte %zu has a preamble next, and byte %zu the start of a frame", at, i * frame_bytes);
+            return say_misplaced(at, i * frame_bytes, n);
         if (form == before)
             return fail("byte %zu has the preamble in the form of the one before", at);
-        printf("  byte %9zu  %s\n", at, form == OPL_UPRIGHT ? "upright" : "inverted");
-        if (i == number)
-            *found = at;
+        if (is_shown(i))
+            printf("  byte %9zu  %s\n", at, form == OPL_UPRIGHT ? "upright" : "inverted");
         before = form;
         at = next_start(bytes, n, at + 1, &form);
     }
-    return at == n || fail("byte %zu has a preamble, and no frame starts there", at);
+    *recorded = (struct recorded){bytes, i, frame_bytes};
+    if (frame_bytes < START_BYTES || frame_bytes % UNIT_BYTES != 0)
+        return fail("a frame has %zu bytes, which are no capacity units, two at least", frame_bytes);
+    if (i * frame_bytes != n)
+        return fail("the last of %zu frames has %zu of its %zu bytes", i, n - (i - 1) * frame_bytes, frame_bytes);
+    printf("  %zu frames of %zu bytes, one behind the other\n", i, frame_bytes);
+    return true;
 }

@@ -9,11 +9,14 @@
 #include <stddef.h>
 #include <stdint.h>
 
+#include "apart.h"
+
 /*
- * Looks for preambles at every byte of a recording of n bytes, and prints where they are. True if one is at the
- * start of each frame, and nowhere else, and if each has the form that the one before it has not. Then the place of
- * frame `number`, counted from 0, is in *found.
+ * Looks for preambles at every byte of a recording of n bytes, and prints where some are. The distance of the first two
+ * is that of all frames; with one preamble the recording is one frame. True if one is at the start of each frame, and
+ * nowhere else, if each has the form that the one before it has not, and if the last frame is whole. Then the frames
+ * are in *recorded.
  */
-bool find_frames(const uint8_t *bytes, size_t n, size_t frame_bytes, size_t number, size_t *found);
+bool find_frames(const uint8_t *bytes, size_t n, struct recorded *recorded);
 
 #endif
