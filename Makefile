@@ -7,13 +7,15 @@ native := target/native/libopl.a
 headend := target/examples/headend
 listing := target/bin/listing
 # what the demonstration is run on, and the frames and the IP packets out of them that it writes; `make demo sheet=FILE`
-# takes another, and so on; `make demo stream=` sends no transport stream, `make demo ip=` no IP packets
+# takes another, and so on; `make demo stream=` sends no transport stream, `make demo ip=` no IP packets; and how many
+# capacity units a frame has; empty: as many as the head-end takes by itself
 sheet := examples/sheets/story.sheet
 payload := README.md
 stream := examples/streams/story.ts
 ip := examples/streams/story.ip
 frames := target/demo/frames.bin
 packets := target/demo/packets.ip
+units :=
 headers := $(wildcard include/*.h)
 # as opl.h has it, in three lines
 version = $(shell awk '$$2 ~ /^OPL_VERSION_(MAJOR|MINOR|PATCH)$$/ { print $$3 }' include/opl.h | paste -s -d . -)
@@ -50,9 +52,9 @@ need = $(if $(call missing,$(tools-$1)),$(error make $1 needs what is not instal
 .DELETE_ON_ERROR:
 
 help:
-	@echo 'make demo    build the library and the C head-end of examples/, and play some frames of a sheet'
+	@echo 'make demo    build the library and the C head-end of examples/, play some frames of a sheet and take them apart'
 	@echo '             (sheet=FILE, payload=FILE, stream=FILE, ip=FILE, frames=FILE, packets=FILE: other files;'
-	@echo '             stream=: no transport stream, ip=: no IP packets)'
+	@echo '             stream=: no transport stream, ip=: no IP packets; units=N: frames of so many capacity units)'
 	@echo 'make self-test'
 	@echo '             have the head-end encode sums of words under each pattern and hold them to the sums of codewords'
 	@echo '             (pairs=N: another number of sums under each)'
@@ -70,7 +72,7 @@ demo: need-demo $(headend) $(listing)
 	@echo 'the sheet, $(sheet)'
 	@listed=0; \
 	sh tools/x86-64.sh run $(listing) <'$(sheet)' || listed=$$?; \
-	sh tools/x86-64.sh run $(headend) $(if $(ip),--ip '$(ip)' '$(packets)') \
+	sh tools/x86-64.sh run $(headend) $(if $(units),--units '$(units)') $(if $(ip),--ip '$(ip)' '$(packets)') \
 	    '$(sheet)' '$(payload)' '$(frames)' $(if $(stream),'$(stream)') && exit $$listed
 
 self-test: need-self-test $(headend)
