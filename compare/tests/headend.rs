@@ -1,7 +1,9 @@
 //! The head-end of examples/ over transport streams: what it sends of them, that it reads it back, and which files it
-//! refuses. Those over IP packets stand in head_end/ip_streams.rs and head_end/ip_story.rs, those of its self-test in
-//! self_test.rs.
+//! refuses. Those over IP packets stand in head_end/ip_streams.rs and head_end/ip_story.rs, those of the frames and of
+//! their reader in head_end/frames.rs, those of its self-test in self_test.rs.
 
+#[path = "head_end/frames.rs"]
+mod frames;
 mod head_end;
 #[path = "head_end/ip_sent.rs"]
 mod ip_sent;
@@ -9,11 +11,13 @@ mod ip_sent;
 mod ip_story;
 #[path = "head_end/ip_streams.rs"]
 mod ip_streams;
+#[path = "head_end/multiplexer.rs"]
+mod multiplexer;
 mod program;
 
 use compare::inputs::{plain, plain_pipe};
 use compare::rng::Rng;
-use compare::second::signalling::sheet_of;
+use compare::second::signalling::{judged_sheet, sheet_of};
 use compare::stream::{pid_of, stream, MINUTE, NULL_PID, PACKET};
 use head_end::headend;
 use program::{figure, file, made, run, x86_64};
@@ -112,8 +116,8 @@ impl Sums {
         text + "\n\n"
     }
 
-    /// What is said of it when the frames are read, at the end.
-    fn read(&self, run: &Run, id: u8) -> String {
+    /// What is said of it when the frames are read, at the end, with so many words that were sent.
+    fn read(&self, run: &Run, id: u8, sent: usize) -> String {
         let mut words = format!("{} of type 2 (packets)", self.words);
         if self.dummies > 0 {
             words += &format!(", {} of type 0 (dummies)", self.dummies);
@@ -125,10 +129,11 @@ stream {id} read back from all {} frames
   parity of the packets                    all four parts of each word hold
     with a bit of packet 3 inverted        part 1 (packets 2 and 3) does not hold, the other three do
   packets                                  {} given back, all as they were sent; {} dropped
-",
+{}",
             run.frames,
             self.sent - self.nulls,
-            several(self.nulls + self.filling, "null packet")
+            several(self.nulls + self.filling, "null packet"),
+            on_the_way(sent - self.words)
         )
     }
 }
@@ -137,12 +142,23 @@ fn several(n: usize, name: &str) -> String {
     format!("{n} {name}{}", if n == 1 { "" } else { "s" })
 }
 
-/// Runs it, with so many slots for the stream.
+/// The line of so many words that were sent and are not whole when the frames end, if there are any.
+fn on_the_way(words: usize) -> String {
+    match words {
+        0 => String::new(),
+        _ => format!(
+            "  still on the way                         {}, not whole yet in these frames\n",
+            several(words, "word")
+        ),
+    }
+}
+
+/// Runs it, with so many slots for the stream, and so many of them whole by the last frame.
 #[track_caller]
-fn holds(run: &Run, id: u8, slots: usize) -> String {
+fn holds(run: &Run, id: u8, slots: usize, whole: usize) -> String {
     let printed = run.printed();
-    let sums = Sums::of(&run.stream, slots);
-    let [written, read] = [sums.written(run, id), sums.read(run, id)];
+    let [sent, come] = [slots, whole].map(|slots| Sums::of(&run.stream, slots));
+    let [written, read] = [sent.written(run, id), come.read(run, id, sent.words)];
     assert!(printed.contains(&written), "{printed}\nlacks{written}");
     assert!(printed.ends_with(&read), "{printed}\ndoes not end{read}");
     printed
@@ -156,9 +172,20 @@ fn sheet(pattern: u32, width: u32) -> Vec<u8> {
     sheet_of(&plain(vec![pipe], None))
 }
 
-/// The demonstration's sheet. In four frames its stream 2, the last of the first pipe, has eight slots.
+/// The demonstration's sheet.
 fn story() -> Vec<u8> {
     fs::read(file("examples/sheets/story.sheet")).expect("the sheet is there")
+}
+
+/// The same with the least multipliers, so that the greatest delays are 3, 1 and 3 frames. Its stream 2, the last of the
+/// first pipe, has two slots in a frame.
+fn quick_story() -> Vec<u8> {
+    let mut description = judged_sheet(&story()).expect("it is sound");
+    for pipe in &mut description.pipes {
+        pipe.fields.tap_diff_mult_int_1 = 0;
+        pipe.fields.tap_diff_mult_fract_1_16 = 0;
+    }
+    sheet_of(&description)
 }
 
 /// Under pattern 25 a codeword has seven capacity units, so that a frame has 18 slots.
@@ -170,24 +197,45 @@ fn a_minute_of_a_stream_comes_back() {
         stream: stream(&mut Rng::new(730), MINUTE),
         frames: 139,
     };
-    let printed = holds(&run, 12, 18 * 139);
+    let printed = holds(&run, 12, 18 * 139, 18 * 139);
     assert!(printed.contains("accepted: 2494 of type 2 (packets), 8 of type 0 (dummies)\n"));
     assert!(printed.contains("stream 12: 2494 words of type 2 with all 19946 packets of "));
 }
 
 /// A stream that ends in the first word, at its end, behind it, in the last word and at the end of that; and longer
-/// ones, of which the first packets are sent.
+/// ones, of which the first packets are sent, and fewer come back.
 #[test]
 fn a_stream_of_any_length_comes_back() {
     let mut rng = Rng::new(731);
-    for count in [1, 7, 8, 9, 63, 64, 65, 200] {
+    for count in [1, 7, 8, 9, 63, 64, 65, 111, 112, 113, 200] {
         let run = Run {
             name: format!("{count}_packets"),
-            sheet: story(),
+            sheet: quick_story(),
             stream: stream(&mut rng, count),
-            frames: 4,
+            frames: 7,
         };
-        holds(&run, 2, 8);
+        holds(&run, 2, 14, 8);
+    }
+}
+
+/// Within fewer frames than the greatest delay, and a frame more, nothing of a pipe comes back.
+#[test]
+fn what_is_not_whole_is_on_the_way() {
+    for frames in [2, 3] {
+        let run = Run {
+            name: format!("{frames}_frames_of_delay"),
+            sheet: quick_story(),
+            stream: stream(&mut Rng::new(736), 20),
+            frames,
+        };
+        let printed = run.printed();
+        let line = "\n     1      3   by slots              0  none is whole within these frames\n";
+        assert!(printed.contains(line), "{printed}");
+        let last = format!(
+            "\nstream 2 read back from all {frames} frames\n{}",
+            on_the_way(3)
+        );
+        assert!(printed.ends_with(&last), "{printed}");
     }
 }
 

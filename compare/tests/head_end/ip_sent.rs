@@ -1,7 +1,7 @@
 //! What a run of the head-end over IP packets comes to, and all that it says of them, worked out from the packets and
 //! the slots that they have.
 
-use super::{several, story};
+use super::{on_the_way, quick_story, several};
 use crate::program::{file, made};
 use compare::inputs::handed_out;
 use compare::rng::Rng;
@@ -16,27 +16,42 @@ const CELL: usize = 32;
 const SHOWN: usize = 24;
 /// The packets that are listed of those that did not come out.
 const LISTED: usize = 16;
-/// The frames that are played if no number is given: so many, and more while packets wait.
+/// The frames that come back if no number is given: so many, and more while packets wait.
 const FRAMES: usize = 4;
 const FRAMES_MOST: usize = 100;
 
-/// Which stream carries the packets, and how many slots it has in so many frames.
+/// Which stream carries the packets, how many slots it has in so many frames, and the greatest delays of its pipe and of
+/// all pipes.
 #[derive(Clone, Copy)]
 pub struct Slots {
     pub id: u8,
     in_frames: fn(usize) -> usize,
+    delay: usize,
+    greatest_delay: usize,
 }
 
-/// Of the demonstration's sheet: both slots of pipe 4 in the first frame, one in the next, and so on.
+/// Of the demonstration's sheet: both slots of pipe 4 in the codewords that are whole with the first frame, one in the
+/// next, and so on; so one in those that go in with the first, as these are whole an odd number of frames later.
 pub const STORY_SLOTS: Slots = Slots {
     id: 36,
-    in_frames: |frames| frames + frames.div_ceil(2),
+    in_frames: |frames| frames + frames / 2,
+    delay: 53,
+    greatest_delay: 98,
+};
+
+/// Of the same sheet with short delays.
+pub const QUICK_SLOTS: Slots = Slots {
+    delay: 3,
+    greatest_delay: 3,
+    ..STORY_SLOTS
 };
 
 /// Of a sheet of one pipe with one stream, and one slot in a frame.
 pub const ONE_SLOT: Slots = Slots {
     id: 12,
     in_frames: |frames| frames,
+    delay: 0,
+    greatest_delay: 0,
 };
 
 /// What a run is made of. Its files have its name.
@@ -53,7 +68,7 @@ impl Run {
     pub fn of(name: &str, ip: Vec<u8>) -> Run {
         Run {
             name: format!("ip_{name}"),
-            sheet: story(),
+            sheet: quick_story(),
             ip,
             stream: Some(52),
             frames: None,
@@ -106,14 +121,21 @@ pub struct Sent {
 }
 
 impl Sent {
-    pub fn of(run: &Run, slots: Slots) -> Sent {
-        let packets = handed_out(&run.ip);
-        let mut words = all_words(&packets);
-        let enough = |frames: &usize| (slots.in_frames)(*frames) >= words.len();
+    /// What is sent in all frames, and what is whole by the last of them.
+    pub fn of(run: &Run, slots: Slots) -> [Sent; 2] {
+        let words = all_words(&handed_out(&run.ip)).len();
+        let enough = |frames: &usize| (slots.in_frames)(*frames) >= words;
+        let carried = || (FRAMES..FRAMES_MOST).find(enough).unwrap_or(FRAMES_MOST);
         let frames = run
             .frames
-            .unwrap_or_else(|| (FRAMES..FRAMES_MOST).find(enough).unwrap_or(FRAMES_MOST));
-        let room = (slots.in_frames)(frames);
+            .unwrap_or_else(|| carried() + slots.greatest_delay);
+        let whole = frames.saturating_sub(slots.delay);
+        [frames, whole].map(|carrying| Sent::in_slots(run, frames, (slots.in_frames)(carrying)))
+    }
+
+    fn in_slots(run: &Run, frames: usize, room: usize) -> Sent {
+        let packets = handed_out(&run.ip);
+        let mut words = all_words(&packets);
         let dummies = room.saturating_sub(words.len());
         words.truncate(room);
         let bytes = |packet: usize| {
@@ -235,8 +257,8 @@ impl Sent {
         text + "\n"
     }
 
-    /// What is said of it when the frames are read.
-    pub fn read(&self, run: &Run, id: u8) -> String {
+    /// What is said of it when the frames are read, with so many words that were sent.
+    pub fn read(&self, run: &Run, id: u8, sent: usize) -> String {
         let mut words = format!("{} of type 3 (IP packets)", self.words.len());
         if self.dummies > 0 {
             words += &format!(", {} of type 0 (dummies)", self.dummies);
@@ -249,11 +271,12 @@ stream {id} read back from all {} frames
   parity of the packets                    all four parts of each word hold
   packets                                  {} given back, in order and byte for byte as they were sent
   {:<40} written, in the form in which they were sent
-",
+{}",
             self.frames,
             self.pictures(&[], &[]),
             self.whole,
             run.path("back").display().to_string(),
+            on_the_way(sent - self.words.len()),
         )
     }
 

@@ -1,9 +1,9 @@
 //! The head-end over IP packets: what it sends of them, the pictures that it prints of their words, that it reads them
 //! back, with words lost too, which files it refuses, and that it fails over a library with a fault (broken_ip.c).
 
-use super::ip_sent::{Run, Sent, Slots, ONE_SLOT, STORY_SLOTS};
+use super::ip_sent::{Run, Sent, Slots, ONE_SLOT, QUICK_SLOTS, STORY_SLOTS};
 use super::ip_story::story_ip;
-use super::sheet;
+use super::{on_the_way, sheet, story};
 use crate::head_end::{headend, sources};
 use crate::program::{self, build, file, made, x86_64};
 use compare::inputs::{ip_queue, plain_packet};
@@ -40,22 +40,23 @@ fn failed(program: &Path, run: &Run, fault: &str) -> (String, String) {
 #[track_caller]
 fn holds(run: &Run, slots: Slots) -> (String, Sent) {
     let printed = printed(run);
-    let sent = Sent::of(run, slots);
+    let [sent, come] = Sent::of(run, slots);
     let written = sent.written(run, slots.id);
     assert!(printed.contains(&written), "{printed}\nlacks{written}");
-    let read = sent.read(run, slots.id) + &sent.read_again(slots.id);
+    let read = come.read(run, slots.id, sent.words.len()) + &come.read_again(slots.id);
     assert!(printed.ends_with(&read), "{printed}\ndoes not end{read}");
     let back = fs::read(run.path("back")).expect("the packets are written");
-    assert!(back == sent.packets[..sent.whole].concat());
-    (printed, sent)
+    assert!(back == come.packets[..come.whole].concat());
+    (printed, come)
 }
 
-/// As `make demo` has it: 16 words in eleven frames, and the packets that are lost with three of them.
+/// As `make demo` has it: 16 words in eleven frames, 98 frames more, and the packets that are lost with three of them.
 #[test]
 fn the_demonstrations_packets_come_back() {
-    let run = Run::of("story", story_ip());
-    let (printed, sent) = holds(&run, STORY_SLOTS);
-    assert_eq!((sent.words.len(), sent.frames, sent.dummies), (16, 11, 1));
+    let mut run = Run::of("story", story_ip());
+    run.sheet = story();
+    let (printed, come) = holds(&run, STORY_SLOTS);
+    assert_eq!((come.words.len(), come.frames, come.dummies), (16, 109, 68));
     assert!(fs::read(run.path("back")).ok() == Some(story_ip()));
     for line in [
         "     2          none  ddddddddddddddddddddddddddddddddddddddddddddddd\n",
@@ -75,7 +76,7 @@ fn packets_of_any_length_come_back() {
     let mut rng = Rng::new(741);
     for count in [1, 2, 3, 5, 8, 13, 21, 34, 55] {
         let run = Run::of(&format!("{count}_packets"), ip_queue(&mut rng, count));
-        holds(&run, STORY_SLOTS);
+        holds(&run, QUICK_SLOTS);
     }
 }
 
@@ -86,7 +87,7 @@ fn of_few_words_some_are_lost_too() {
         let packet = plain_packet(2, 0, 700, 0x55);
         let count = words * PAYLOAD_BYTES / (700 + PACKET_HEADER_BYTES);
         let run = Run::of(&format!("{words}_words"), packet.repeat(count));
-        let (_, sent) = holds(&run, STORY_SLOTS);
+        let (_, sent) = holds(&run, QUICK_SLOTS);
         assert_eq!(sent.words.len(), words);
     }
 }
@@ -95,7 +96,7 @@ fn of_few_words_some_are_lost_too() {
 #[test]
 fn of_many_lost_packets_some_are_listed() {
     let run = Run::of("many", plain_packet(1, 0x80, 1, 0xFF).repeat(4_000));
-    let (printed, _) = holds(&run, STORY_SLOTS);
+    let (printed, _) = holds(&run, QUICK_SLOTS);
     assert!(
         printed.contains("; 4000 with the error bit set\n"),
         "{printed}"
@@ -114,19 +115,19 @@ fn headers_stand_where_they_fit() {
             plain_packet(1, 0, 4_095, 3),
         ]
         .concat();
-        holds(&Run::of(&format!("{left}_left"), ip), STORY_SLOTS);
+        holds(&Run::of(&format!("{left}_left"), ip), QUICK_SLOTS);
     }
 }
 
-/// With a number of frames no more are played. With two a packet is begun that is not whole; and a stream may have
+/// With a number of frames no more are played. With five a packet is begun that is not whole; and a stream may have
 /// just one slot, and no transport stream beside it.
 #[test]
 fn what_does_not_fit_the_frames_waits() {
-    for frames in [2, 3, 10, 11, 14] {
+    for frames in [5, 6, 13, 14, 17] {
         let mut run = Run::of(&format!("{frames}_frames"), story_ip());
         run.frames = Some(frames);
-        let (_, sent) = holds(&run, STORY_SLOTS);
-        assert_eq!(sent.whole < 26, frames < 11);
+        let (_, come) = holds(&run, QUICK_SLOTS);
+        assert_eq!(come.whole < 26, frames < 14);
     }
     let mut run = Run::of("one_slot", story_ip());
     (run.sheet, run.stream) = (sheet(25, 7), None);
@@ -134,12 +135,25 @@ fn what_does_not_fit_the_frames_waits() {
     assert_eq!((sent.frames, sent.dummies), (16, 0));
 }
 
-/// More words than are shown, and more than 100 frames have.
+/// Within as many frames as the greatest delay no packet comes back.
+#[test]
+fn what_is_not_whole_is_on_the_way() {
+    let mut run = Run::of("on_the_way", story_ip());
+    run.frames = Some(3);
+    let printed = printed(&run);
+    let words = Sent::of(&run, QUICK_SLOTS).map(|sent| sent.words.len());
+    assert_eq!(words, [4, 0]);
+    let last = format!("\nstream 36 read back from all 3 frames\n{}", on_the_way(4));
+    assert!(printed.ends_with(&last), "{printed}");
+    assert!(fs::read(run.path("back")).is_ok_and(|back| back.is_empty()));
+}
+
+/// More words than are shown, and more than come back of 100 frames.
 #[test]
 fn of_a_long_stream_the_first_words_are_shown() {
     let ip = ip_queue(&mut Rng::new(742), 400);
-    let (_, sent) = holds(&Run::of("long", ip), STORY_SLOTS);
-    assert_eq!((sent.frames, sent.words.len()), (100, 150));
+    let (_, come) = holds(&Run::of("long", ip), QUICK_SLOTS);
+    assert_eq!((come.frames, come.words.len()), (103, 150));
 }
 
 /// Patterns 7 to 12 leave out bits of the word itself.
@@ -148,7 +162,8 @@ fn what_takes_a_decoder_is_not_read() {
     let mut run = Run::of("pattern_7", story_ip());
     (run.sheet, run.stream) = (sheet(7, 16), None);
     let printed = printed(&run);
-    let written = Sent::of(&run, ONE_SLOT).written(&run, 12);
+    let [sent, _] = Sent::of(&run, ONE_SLOT);
+    let written = sent.written(&run, 12);
     assert!(printed.contains(&written), "{printed}");
     let last = "\nstream 12 read back from all 16 frames\n  payload words                            not read: \
         their pattern does not send all bits, which takes a turbo decoder\n";
