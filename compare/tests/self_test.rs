@@ -101,8 +101,8 @@ fn a_wrong_number_of_pairs_is_refused() {
 
 #[test]
 fn other_words_are_refused() {
-    let usage = "headend: usage: headend [--ip IP BACK] SHEET PAYLOAD FRAMES [STREAM [COUNT]], \
-        or headend --self-test [PAIRS]\n";
+    let usage = "headend: usage: headend [--units UNITS] [--ip IP BACK] SHEET PAYLOAD FRAMES [STREAM [COUNT]], \
+        or headend --take-apart FRAMES [WORDS], or headend --self-test [PAIRS]\n";
     for words in [
         &[][..],
         &["--self-tests"],
