@@ -1,5 +1,4 @@
 pub mod Chain
-pub mod Refusing
 pub mod Taking
 pub mod Stepping
 pub mod Run

@@ -31,13 +31,14 @@ use Rattle.slots.specs.Slots.{frameBytes}
 use Rattle.slots.specs.Ring.{depth, taken, byteFrom, dispersing, step}
 use Rattle.disperser.proofs.Dispersing.{read-out}
 use Rattle.mixer.specs.Mixing.{codewordBytes}
+use Rattle.pipe_look.specs.Faults.{frameFaults}
 use Rattle.profile.specs.declared.Profiled.{Profiled}
 use Rattle.profile.specs.Profile.{profileOf}
 use Rattle.profile.specs.Lent.{lentFields, lentSections, profileFault, noProfile, profiled}
 use Rattle.profile.proofs.Giving.{record-row, lent-at-most}
 use Rattle.pipe.specs.Frame.{wayOf, mixedFrame}
 use Rattle.pipe.specs.Piping.{lentWay, lentPattern, pipeFaults, piping}
-use Rattle.pipe.specs.Inside.{faultsBy, Takes}
+use Rattle.pipe.specs.Inside.{Takes}
 use Rattle.pipe.proofs.Chain.{frame-size, mixed-frame-length}
 
 -- ---- the record as it is read
@@ -89,7 +90,7 @@ module _ (l : List ℕ) (p : lentPattern l ≤ 27) (whole : pipeWidth (lentField
 
 module _ (l codewords memory out : List ℕ) where
   abbrev given : ℕ → ℕ → ℕ
-  given refusal greatest = firstOf (faultsBy refusal greatest (lentPattern l) (pipeWidth (lentFields l)) (length codewords) (length memory) (length out))
+  given refusal greatest = firstOf (frameFaults refusal greatest (lentPattern l) (pipeWidth (lentFields l)) (length codewords) (length memory) (length out))
 
   abbrev greatest : ℕ
   greatest = lentWay l .profile .greatest
@@ -106,7 +107,7 @@ module _ (l codewords memory out : List ℕ) where
   by-width p true e = ap lengths (sym (frame-is l p (eqb-true (pipeWidth (lentFields l) % unitsOf (lentPattern l)) 0 e)))
 
   by-pattern : (t : Bool) → ltb 27 (lentPattern l) ≡ t → profileFault l ≡ false → given 0 greatest ≡ firstOf (pipeFaults l codewords memory out)
-  unfolding faultsBy pipeFaults
+  unfolding frameFaults pipeFaults
   by-pattern true e f = choose-true _ _ e ∙ sym (choose-false _ _ f ∙ choose-true _ _ e)
   by-pattern false e f =
       choose-false _ _ e
@@ -118,7 +119,7 @@ module _ (l codewords memory out : List ℕ) where
   same-greatest = refl
 
   by-profile : (t : Bool) → profileFault l ≡ t → (r : Profiled) → r ≡ profiled l → given (r .refusal) (r .profile .greatest) ≡ firstOf (pipeFaults l codewords memory out)
-  unfolding profiled pipeFaults faultsBy
+  unfolding profiled pipeFaults frameFaults
   by-profile true e r g =
       let n : r ≡ record { refusal = 20; profile = noProfile } = g ∙ choose-true _ _ e in
       ap (λ (x : Profiled). given (x .refusal) (x .profile .greatest)) n ∙ sym (choose-true _ _ e)
@@ -127,9 +128,9 @@ module _ (l codewords memory out : List ℕ) where
       ap (λ (x : Profiled). given (x .refusal) (x .profile .greatest)) n ∙ same-greatest ∙ by-pattern (ltb 27 (lentPattern l)) refl e
 
   pub faults-are : (r : Profiled) (q : Pipe) → r ≡ profiled l → q ≡ pipeAt l 0 0
-      → firstOf (faultsBy (r .refusal) (r .profile .greatest) (q .pattern) (q .width) (length codewords) (length memory) (length out)) ≡ firstOf (pipeFaults l codewords memory out)
+      → firstOf (frameFaults (r .refusal) (r .profile .greatest) (q .pattern) (q .width) (length codewords) (length memory) (length out)) ≡ firstOf (pipeFaults l codewords memory out)
   faults-are r q e g =
-      ap₂ (λ (x y : ℕ). firstOf (faultsBy (r .refusal) (r .profile .greatest) x y (length codewords) (length memory) (length out))) (pattern-is l q g) (width-is l q g)
+      ap₂ (λ (x y : ℕ). firstOf (frameFaults (r .refusal) (r .profile .greatest) x y (length codewords) (length memory) (length out))) (pattern-is l q g) (width-is l q g)
       ∙ by-profile (profileFault l) refl r e
 
 -- ---- what an accepted call says

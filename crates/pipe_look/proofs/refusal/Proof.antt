@@ -1,19 +1,19 @@
--- `pipe::refusal` meets its contract. Assumes nothing.
+-- `pipe_look::refusal` meets its contract. Assumes nothing.
 use Prim.Native.Nat.{ℕ, _%_, _≤_, _<_}
 use mathlib.Core.Path.{_≡_, sym, ap, _∙_}
 use native.Mathlib.Omega.{arith}
 use Rattle.patterns.specs.Rates.{unitsOf}
 use Rattle.patterns.proofs.Rates.{units-some}
-use Rattle.pipe.proofs.Refusing.{ring-small, number-profile, number-3, number-width, number-codewords, number-memory, number-out, number-none}
+use Rattle.pipe_look.proofs.Refusing.{ring-small, number-profile, number-3, number-width, number-codewords, number-memory, number-out, number-none}
 use borrow.Author.Needs.{needs}
-use Rattle.pipe.proofs.refusal.Statement.{statement}
-use Rattle.pipe.proofs.refusal.Tie as tie
-use Rattle.pipe.proofs.refusal.Reads as reads
-use Rattle.pipe.proofs.refusal.Lts as lts
+use Rattle.pipe_look.proofs.refusal.Statement.{statement}
+use Rattle.pipe_look.proofs.refusal.Tie as tie
+use Rattle.pipe_look.proofs.refusal.Reads as reads
+use Rattle.pipe_look.proofs.refusal.Lts as lts
 use Rattle.patterns.proofs.units.Reads as units-reads
 
 mul-size : tie.Need-mul-size
-mul-size c = omega (arith, c .pre)
+mul-size c = search needs
 
 returns : tie.Need-returns
 returns c = let a = c .before .args in number-profile (a .profile) (a .greatest) (a .pattern) (a .width) (a .codewords) (a .memory) (a .out) (omega (arith, c .if1 .taken))
@@ -50,7 +50,7 @@ add-if5 : tie.Need-add-if5
 add-if5 c = search needs
 
 mul-if5 : tie.Need-mul-if5
-mul-if5 c = let b = c .before .before .before .before .before in omega (arith, ring-small (b .args .greatest) (b .args .width) (omega (arith, b .fits .greatest)) (b .pre))
+mul-if5 c = let b = c .before .before .before .before .before in omega (arith, ring-small (b .args .greatest) (b .args .width) (omega (arith, b .fits .greatest)) (omega (arith, b .fits .width)))
 
 returns-5 : tie.Need-returns-5
 returns-5 c = let a = c .before .before .before .before .before .before .args in let u = c .before .before .before in number-memory (a .profile) (a .greatest) (a .pattern) (a .width) (a .codewords) (a .memory) (a .out) (found u .0) (found u .1) (whole (c .before .before)) (c .before .if4 .left) (c .if5 .taken)
