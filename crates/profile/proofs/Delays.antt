@@ -20,8 +20,8 @@ use Rattle.description.specs.Rules.{PipeKeeps}
 use Rattle.description.specs.Fields.{table16, table19, pipeWidth, numDisperserSections1, disperserInvFlag, tapDiffMultInt1, tapDiffMultFract116}
 use Rattle.slots.specs.Disperser.{tapDelayRec, tapDelay}
 use Rattle.slots.proofs.Delays.{delays-add}
-use Rattle.taps.specs.Lengths.{intermedLen}
-use Rattle.taps.proofs.Growing.{grows, intermed-most}
+use Rattle.tap_lengths.specs.Lengths.{intermedLen}
+use Rattle.tap_lengths.proofs.Growing.{grows, intermed-most}
 use Rattle.profile.specs.Profile.{tapLengthBy, tapLength, byColumns, flipped, maxDelay, profileOf}
 use Rattle.profile.specs.Wanted.{AddUp, AtMost, KeptAtMost, Reordered, fromColumns}
 

@@ -25,10 +25,10 @@ use Rattle.records.specs.declared.Pipe.{Pipe}
 use Rattle.records.specs.Records.{pipeOf, pipeAt}
 use Rattle.slots.specs.declared.Profile.{Profile}
 use Rattle.slots.specs.Disperser.{tapDelayRec}
-use Rattle.taps.specs.Lengths.{tapTotal, intermedLen}
-use Rattle.taps.specs.Sections.{sectionsAt}
-use Rattle.taps.proofs.Sections.{section-row}
-use Rattle.taps.proofs.Walking.{sections-length}
+use Rattle.tap_lengths.specs.Lengths.{tapTotal, intermedLen}
+use Rattle.tap_lengths.specs.Sections.{sectionsAt}
+use Rattle.tap_lengths.proofs.Sections.{section-row}
+use Rattle.tap_lengths.proofs.Walking.{sections-length}
 use Rattle.profile.specs.declared.Profiled.{Profiled}
 use Rattle.profile.specs.Profile.{tapLength, byColumns, flipped, profileOf}
 use Rattle.profile.specs.Lent.{lentFields, lentSections, profileFault, noProfile, profiled, numbersOf, profileFaults, profiling}

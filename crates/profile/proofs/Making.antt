@@ -13,9 +13,9 @@ use Rattle.bits.proofs.Places.{field-lt}
 use Rattle.description.specs.Fields.{table16, disperserInvFlag, tapDiffMultInt1, tapDiffMultFract116}
 use Rattle.views.specs.Rows.{rowFrom, rowAt}
 use Rattle.slots.specs.declared.Profile.{Profile}
-use Rattle.taps.specs.Lengths.{intermedLen}
-use Rattle.taps.specs.Sections.{sectionsAt}
-use Rattle.taps.proofs.Walking.{short-lengths}
+use Rattle.tap_lengths.specs.Lengths.{intermedLen}
+use Rattle.tap_lengths.specs.Sections.{sectionsAt}
+use Rattle.tap_lengths.proofs.Walking.{short-lengths}
 use Rattle.profile.specs.Profile.{tapLengthBy, tapLength, byColumns, flipped, maxDelay, profileOf}
 use Rattle.profile.specs.Lent.{lentFields}
 

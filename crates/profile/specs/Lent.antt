@@ -11,8 +11,8 @@ use Rattle.description.specs.Fields.{table16}
 use Rattle.description.specs.Description.{ownSections}
 use Rattle.views.specs.Rows.{rowAt}
 use Rattle.slots.specs.declared.Profile.{Profile}
-use Rattle.taps.specs.Lengths.{tapTotal}
-use Rattle.taps.specs.Sections.{sectionsAt}
+use Rattle.tap_lengths.specs.Lengths.{tapTotal}
+use Rattle.tap_lengths.specs.Sections.{sectionsAt}
 use Rattle.profile.specs.Profile.{profileOf}
 use Rattle.profile.specs.declared.Profiled.{Profiled}
 

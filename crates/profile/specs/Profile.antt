@@ -7,7 +7,7 @@ use Rattle.ground.specs.Choice.{choose}
 use Rattle.ground.specs.Table.{tab}
 use Rattle.description.specs.Fields.{disperserInvFlag, tapDiffMultInt1, tapDiffMultFract116}
 use Rattle.slots.specs.declared.Profile.{Profile}
-use Rattle.taps.specs.Lengths.{intermedLen}
+use Rattle.tap_lengths.specs.Lengths.{intermedLen}
 
 -- Tap_Length = Tap_Diff_Mult_Int x floor(Intermed_Len x Tap_Diff_Mult_Fract), where Tap_Diff_Mult_Int = Tap_Diff_Mult_Int_1 + 1
 -- and Tap_Diff_Mult_Fract = Tap_Diff_Mult_Fract_1_16 + 0,0625, which is (the field + 1) sixteenths

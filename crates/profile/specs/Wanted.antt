@@ -11,7 +11,7 @@ use Rattle.description.specs.Fields.{table16, table19, pipeWidth}
 use Rattle.description.specs.Description.{Pipe}
 use Rattle.description.specs.Rules.{PipeKeeps}
 use Rattle.slots.specs.Disperser.{tapDelay, tapDelayRec}
-use Rattle.taps.specs.Lengths.{tapTotal}
+use Rattle.tap_lengths.specs.Lengths.{tapTotal}
 use Rattle.profile.specs.Profile.{byColumns, flipped, profileOf}
 use Rattle.profile.specs.Lent.{lentFields, lentSections, profileFault}
 

@@ -6,7 +6,7 @@ ghost use mathlib.Core.Path.{_≡_};
 ghost use Prim.Native.Nat.{_≤_, _<_};
 ghost use lib.ListN.{length};
 ghost use Rattle.ground.specs.Outcome.{Is};
-ghost use Rattle.taps.specs.Sections.{sectionsAt};
+ghost use Rattle.tap_lengths.specs.Sections.{sectionsAt};
 ghost use Rattle.profile.specs.Profile.{tapLengthBy, flipped, profileOf};
 ghost use Rattle.profile.specs.Lent.{lentFields, profiled, numbersOf, profiling};
 
@@ -51,7 +51,7 @@ fn flipped(inv: u32, k: usize) -> usize
 fn made(pipe: &[u8], n: u8) -> Profile
     ensures { λ r. ⌜ r ≡ profileOf (lentFields (now (pipe .entry))) (sectionsAt n (now (pipe .entry))) ⌝ }
 {
-    let lens = taps::lengths(pipe, n);
+    let lens = tap_lengths::lengths(pipe, n);
     let inv = bits::field(pipe, 24, 1);
     let int = bits::field(pipe, 36, 4);
     let fract = bits::field(pipe, 40, 4);
@@ -82,7 +82,7 @@ pub fn of(pipe: &[u8]) -> Profiled
             },
         };
     }
-    if taps::total(pipe, n as u8) != TAPS {
+    if tap_lengths::total(pipe, n as u8) != TAPS {
         return Profiled {
             refusal: PROFILE_WRONG,
             profile: Profile {

@@ -8,8 +8,8 @@ use lib.ListN.{length, getD, length-set}
 use Rattle.ground.proofs.Fill.{fill-more}
 use Rattle.bits.proofs.Places.{field-lt}
 use Rattle.description.specs.Fields.{disperserInvFlag}
-use Rattle.taps.specs.Lengths.{intermedLen}
-use Rattle.taps.specs.Sections.{sectionsAt}
+use Rattle.tap_lengths.specs.Lengths.{intermedLen}
+use Rattle.tap_lengths.specs.Sections.{sectionsAt}
 use Rattle.profile.specs.Profile.{tapLength, byColumns, flipped, maxDelay}
 use Rattle.profile.specs.Lent.{lentFields}
 use Rattle.profile.proofs.Making.{tapAt, inv-is, len-small, tap-length-is, made-is}
@@ -20,7 +20,7 @@ use Rattle.profile.proofs.made.Lts as lts
 use Rattle.bits.proofs.field.Reads as field-reads
 use Rattle.profile.proofs.flipped.Reads as flipped-reads
 use Rattle.profile.proofs.tap_length.Reads as tap-length-reads
-use Rattle.taps.proofs.lengths.Reads as lengths-reads
+use Rattle.tap_lengths.proofs.lengths.Reads as lengths-reads
 
 abbrev Inv-loop : tie.InvT-loop
 Inv-loop pipe n lens inv int fract p₀ k₀ p k = (k ≤ 32) × (length (p .taps) ≡ 32) × ((j : ℕ) → j < k → getD (p .taps) j 0 ≡ tapAt (lentFields pipe) (sectionsAt n pipe) j) × (p .greatest ≡ maxDelay (lentFields pipe) (sectionsAt n pipe))

@@ -4,8 +4,8 @@ use mathlib.Core.Path.{_≡_, sym, ap, _∙_}
 use native.Mathlib.Omega.{arith}
 use lib.ListN.{length}
 use Rattle.description.specs.Description.{ownSections}
-use Rattle.taps.specs.Lengths.{tapTotal}
-use Rattle.taps.specs.Sections.{sectionsAt}
+use Rattle.tap_lengths.specs.Lengths.{tapTotal}
+use Rattle.tap_lengths.specs.Sections.{sectionsAt}
 use Rattle.profile.specs.Profile.{profileOf}
 use Rattle.profile.specs.Lent.{lentFields}
 use Rattle.profile.proofs.Giving.{own-is, own-small, of-length, of-taps, of-made}
@@ -16,7 +16,7 @@ use Rattle.profile.proofs.of.Reads as reads
 use Rattle.profile.proofs.of.Lts as lts
 use Rattle.profile.proofs.made.Reads as made-reads
 use Rattle.records.proofs.pipe_at.Reads as pipe-at-reads
-use Rattle.taps.proofs.total.Reads as total-reads
+use Rattle.tap_lengths.proofs.total.Reads as total-reads
 
 pipe-at-requires : tie.Need-pipe-at-requires
 pipe-at-requires c κs = search needs

@@ -6,7 +6,7 @@ use mathlib.Core.List.{List}
 use Rattle.description.specs.Fields.{table19, tapDiff, gapWidth}
 use Rattle.description.specs.Rules.{taps}
 use Rattle.views.specs.Rows.{rowAt, rowsAt}
-use Rattle.taps.specs.declared.Section.{Section}
+use Rattle.tap_lengths.specs.declared.Section.{Section}
 
 -- n sections, behind the record
 abbrev pub sectionsAt : ℕ → List ℕ → List (List ℕ)

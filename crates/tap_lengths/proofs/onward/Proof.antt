@@ -1,12 +1,12 @@
--- `taps::onward` meets its contract. Assumes nothing.
+-- `tap_lengths::onward` meets its contract. Assumes nothing.
 use native.Mathlib.Omega.{arith}
-use Rattle.taps.proofs.Walking.{onward-within, onward-same, onward-over}
+use Rattle.tap_lengths.proofs.Walking.{onward-within, onward-same, onward-over}
 use borrow.Author.Needs.{needs}
-use Rattle.taps.proofs.onward.Statement.{statement}
-use Rattle.taps.proofs.onward.Tie as tie
-use Rattle.taps.proofs.onward.Reads as reads
-use Rattle.taps.proofs.onward.Lts as lts
-use Rattle.taps.proofs.section_at.Reads as section-at-reads
+use Rattle.tap_lengths.proofs.onward.Statement.{statement}
+use Rattle.tap_lengths.proofs.onward.Tie as tie
+use Rattle.tap_lengths.proofs.onward.Reads as reads
+use Rattle.tap_lengths.proofs.onward.Lts as lts
+use Rattle.tap_lengths.proofs.section_at.Reads as section-at-reads
 
 cast-t6 : tie.Need-cast-t6
 cast-t6 c = search needs

@@ -3,9 +3,9 @@
 ghost use mathlib.Core.Path.{_≡_};
 ghost use Prim.Native.Nat.{_≤_};
 ghost use Rattle.ground.specs.Table.{tab};
-ghost use Rattle.taps.specs.Lengths.{tapTotal, intermedLen};
-ghost use Rattle.taps.specs.Sections.{sectionAt, sectionsAt};
-ghost use Rattle.taps.specs.Inside.{Narrow, onwardOf};
+ghost use Rattle.tap_lengths.specs.Lengths.{tapTotal, intermedLen};
+ghost use Rattle.tap_lengths.specs.Sections.{sectionAt, sectionsAt};
+ghost use Rattle.tap_lengths.specs.Inside.{Narrow, onwardOf};
 
 // The first bit of the first section: six bytes, then four bits that are not looked at; and how far apart sections are.
 const SECTIONS: usize = 52;

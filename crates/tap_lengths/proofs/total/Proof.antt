@@ -1,18 +1,18 @@
--- `taps::total` meets its contract: after i sections the taps are those of the first i. Assumes nothing.
+-- `tap_lengths::total` meets its contract: after i sections the taps are those of the first i. Assumes nothing.
 use Prim.Native.Nat.{ℕ, _+_, _-_, _*_, _≤_, _<_}
 use mathlib.Core.Path.{_≡_, ap, _∙_}
 use native.Mathlib.Omega.{arith}
 use borrow.Author.Needs.{needs}
 use lib.ListN.{take}
-use Rattle.taps.specs.declared.Section.{Section}
-use Rattle.taps.specs.Lengths.{tapTotal}
-use Rattle.taps.specs.Sections.{sectionsAt}
-use Rattle.taps.proofs.Totals.{taps-none, taps-more, taps-all}
-use Rattle.taps.proofs.total.Statement.{statement}
-use Rattle.taps.proofs.total.Tie as tie
-use Rattle.taps.proofs.total.Reads as reads
-use Rattle.taps.proofs.total.Lts as lts
-use Rattle.taps.proofs.section_at.Reads as section-at-reads
+use Rattle.tap_lengths.specs.declared.Section.{Section}
+use Rattle.tap_lengths.specs.Lengths.{tapTotal}
+use Rattle.tap_lengths.specs.Sections.{sectionsAt}
+use Rattle.tap_lengths.proofs.Totals.{taps-none, taps-more, taps-all}
+use Rattle.tap_lengths.proofs.total.Statement.{statement}
+use Rattle.tap_lengths.proofs.total.Tie as tie
+use Rattle.tap_lengths.proofs.total.Reads as reads
+use Rattle.tap_lengths.proofs.total.Lts as lts
+use Rattle.tap_lengths.proofs.section_at.Reads as section-at-reads
 
 abbrev Inv-loop : tie.InvT-loop
 Inv-loop pipe n taps₀ i₀ taps i = (i ≤ n) × (taps ≡ tapTotal (take i (sectionsAt n pipe))) × (taps ≤ 32 * i)

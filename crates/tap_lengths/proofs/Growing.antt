@@ -15,7 +15,7 @@ use Rattle.description.specs.Rows.{Each, Row, total}
 use Rattle.description.proofs.Rows.{row-at}
 use Rattle.description.specs.Rules.{taps}
 use Rattle.description.specs.Fields.{table19, tapDiff, gapWidth}
-use Rattle.taps.specs.Lengths.{tapTotal, lengthAfter, intermedLen}
+use Rattle.tap_lengths.specs.Lengths.{tapTotal, lengthAfter, intermedLen}
 
 -- ---- the same with the gap at the end of the section before it, so that the first section needs no case of its own
 

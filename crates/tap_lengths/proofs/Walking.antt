@@ -19,12 +19,12 @@ use Rattle.description.specs.Rules.{taps}
 use Rattle.description.proofs.Rows.{row-at}
 use Rattle.views.specs.Rows.{rowAt, rowsAt}
 use Rattle.views.proofs.Rows.{rows-length, rows-get}
-use Rattle.taps.specs.declared.Tap.{Tap}
-use Rattle.taps.specs.declared.Section.{Section}
-use Rattle.taps.specs.Lengths.{lengthAfter, intermedLen}
-use Rattle.taps.specs.Sections.{sectionsAt, sectionOf, sectionAt}
-use Rattle.taps.specs.Inside.{Narrow, within, over, onwardOf}
-use Rattle.taps.proofs.Sections.{section-row}
+use Rattle.tap_lengths.specs.declared.Tap.{Tap}
+use Rattle.tap_lengths.specs.declared.Section.{Section}
+use Rattle.tap_lengths.specs.Lengths.{lengthAfter, intermedLen}
+use Rattle.tap_lengths.specs.Sections.{sectionsAt, sectionOf, sectionAt}
+use Rattle.tap_lengths.specs.Inside.{Narrow, within, over, onwardOf}
+use Rattle.tap_lengths.proofs.Sections.{section-row}
 
 -- the lengths from a tap on
 pub lengthsFrom : List (List ℕ) → Tap → ℕ → ℕ

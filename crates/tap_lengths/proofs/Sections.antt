@@ -11,8 +11,8 @@ use Rattle.description.specs.Fields.{table19, tapDiff, gapWidth}
 use Rattle.description.specs.Rules.{taps}
 use Rattle.description.specs.Rows.{Row}
 use Rattle.views.specs.Rows.{rowFrom, rowAt}
-use Rattle.taps.specs.declared.Section.{Section}
-use Rattle.taps.specs.Sections.{sectionOf, sectionAt}
+use Rattle.tap_lengths.specs.declared.Section.{Section}
+use Rattle.tap_lengths.specs.Sections.{sectionOf, sectionAt}
 
 abbrev pub section : ℕ → ℕ → ℕ → Section
 section a b c = record { taps = a; diff = b; gap = c }

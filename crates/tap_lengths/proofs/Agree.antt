@@ -6,12 +6,12 @@ use borrow.Fn.World.{ArgsD, ResD}
 use borrow.Fn.Kinds.{endedOf}
 use denote.Triple.Clauses.{AtExit}
 use Rattle.ground.proofs.Outcome.{same}
-use Rattle.taps.proofs.total as total
-use Rattle.taps.proofs.total.Kinds as total-kinds
-use Rattle.taps.proofs.total.Reads as total-reads
-use Rattle.taps.proofs.lengths as lengths
-use Rattle.taps.proofs.lengths.Kinds as lengths-kinds
-use Rattle.taps.proofs.lengths.Reads as lengths-reads
+use Rattle.tap_lengths.proofs.total as total
+use Rattle.tap_lengths.proofs.total.Kinds as total-kinds
+use Rattle.tap_lengths.proofs.total.Reads as total-reads
+use Rattle.tap_lengths.proofs.lengths as lengths
+use Rattle.tap_lengths.proofs.lengths.Kinds as lengths-kinds
+use Rattle.tap_lengths.proofs.lengths.Reads as lengths-reads
 
 module _ (κs : Lfts 1) (a : ArgsD total.signature κs) where
   pub total-agrees : (r r′ : ResD total.signature κs) (s s′ : AtExit (endedOf 1 total-kinds.ps total-kinds.r) κs) →

@@ -10,10 +10,10 @@ use lib.Seq.{take-all}
 use Rattle.description.specs.Rules.{taps}
 use Rattle.description.specs.Rows.{total}
 use Rattle.description.proofs.Each.{total-take}
-use Rattle.taps.specs.declared.Section.{Section}
-use Rattle.taps.specs.Lengths.{tapTotal}
-use Rattle.taps.specs.Sections.{sectionsAt, sectionOf, sectionAt}
-use Rattle.taps.proofs.Walking.{sections-length, section-at}
+use Rattle.tap_lengths.specs.declared.Section.{Section}
+use Rattle.tap_lengths.specs.Lengths.{tapTotal}
+use Rattle.tap_lengths.specs.Sections.{sectionsAt, sectionOf, sectionAt}
+use Rattle.tap_lengths.proofs.Walking.{sections-length, section-at}
 
 module _ (n : ℕ) (l : List ℕ) where
   pub taps-none : 0 ≡ tapTotal (take 0 (sectionsAt n l))

@@ -1,13 +1,13 @@
--- `taps::section_at` meets its contract. Assumes nothing.
+-- `tap_lengths::section_at` meets its contract. Assumes nothing.
 use Prim.Native.Nat.{_<_}
 use native.Mathlib.Omega.{arith}
-use Rattle.taps.proofs.Sections.{section-read}
+use Rattle.tap_lengths.proofs.Sections.{section-read}
 use Rattle.bits.proofs.Places.{field-lt}
 use borrow.Author.Needs.{needs}
-use Rattle.taps.proofs.section_at.Statement.{statement}
-use Rattle.taps.proofs.section_at.Tie as tie
-use Rattle.taps.proofs.section_at.Reads as reads
-use Rattle.taps.proofs.section_at.Lts as lts
+use Rattle.tap_lengths.proofs.section_at.Statement.{statement}
+use Rattle.tap_lengths.proofs.section_at.Tie as tie
+use Rattle.tap_lengths.proofs.section_at.Reads as reads
+use Rattle.tap_lengths.proofs.section_at.Lts as lts
 use Rattle.bits.proofs.field.Reads as field-reads
 
 mul-at : tie.Need-mul-at

@@ -4,9 +4,9 @@ use Prim.Native.Nat.{ℕ, _+_, _-_, _≤_}
 use mathlib.Core.List.{List}
 use lib.Dec.{ltb, leb}
 use Rattle.ground.specs.Choice.{choose}
-use Rattle.taps.specs.declared.Tap.{Tap}
-use Rattle.taps.specs.declared.Section.{Section}
-use Rattle.taps.specs.Sections.{sectionAt}
+use Rattle.tap_lengths.specs.declared.Tap.{Tap}
+use Rattle.tap_lengths.specs.declared.Section.{Section}
+use Rattle.tap_lengths.specs.Sections.{sectionAt}
 
 -- a tap within what its numbers can hold
 pub record Narrow (t : Tap) : Type 0 where

@@ -1,4 +1,4 @@
--- `taps::lengths` meets its contract: after k taps the walk stands at tap k. Assumes nothing.
+-- `tap_lengths::lengths` meets its contract: after k taps the walk stands at tap k. Assumes nothing.
 use Prim.Native.Nat.{ℕ, _+_, _-_, _≤_, _<_}
 use mathlib.Core.Path.{_≡_, refl, sym, ap, _∙_, subst}
 use native.Mathlib.Nat.{not-suc-le-zero}
@@ -8,16 +8,16 @@ use lib.ListN.{length, getD, length-set}
 use Rattle.ground.specs.Table.{tab}
 use Rattle.ground.proofs.Fill.{fill-more}
 use Rattle.ground.proofs.Table.{tab-ext}
-use Rattle.taps.specs.declared.Section.{Section}
-use Rattle.taps.specs.Lengths.{intermedLen}
-use Rattle.taps.specs.Sections.{sectionsAt}
-use Rattle.taps.proofs.Walking.{Walks, firstTap, first-walks, onward-walks, walks-len, walks-narrow, none-lengths}
-use Rattle.taps.proofs.lengths.Statement.{statement}
-use Rattle.taps.proofs.lengths.Tie as tie
-use Rattle.taps.proofs.lengths.Reads as reads
-use Rattle.taps.proofs.lengths.Lts as lts
-use Rattle.taps.proofs.onward.Reads as onward-reads
-use Rattle.taps.proofs.section_at.Reads as section-at-reads
+use Rattle.tap_lengths.specs.declared.Section.{Section}
+use Rattle.tap_lengths.specs.Lengths.{intermedLen}
+use Rattle.tap_lengths.specs.Sections.{sectionsAt}
+use Rattle.tap_lengths.proofs.Walking.{Walks, firstTap, first-walks, onward-walks, walks-len, walks-narrow, none-lengths}
+use Rattle.tap_lengths.proofs.lengths.Statement.{statement}
+use Rattle.tap_lengths.proofs.lengths.Tie as tie
+use Rattle.tap_lengths.proofs.lengths.Reads as reads
+use Rattle.tap_lengths.proofs.lengths.Lts as lts
+use Rattle.tap_lengths.proofs.onward.Reads as onward-reads
+use Rattle.tap_lengths.proofs.section_at.Reads as section-at-reads
 
 abbrev Inv-loop : tie.InvT-loop
 Inv-loop pipe n lens₀ t₀ k₀ lens t k = (k ≤ 32) × (length lens ≡ 32) × ((j : ℕ) → j < k → getD lens j 0 ≡ intermedLen (sectionsAt n pipe) j) × Walks (sectionsAt n pipe) k t
