@@ -18,6 +18,6 @@ pub fn write(kind: u32, id: u8, count: u32, payload: &[u8], null: &[u8], word: &
     packet::fill(payload, word);
     transport::carry(kind, count, null, word);
     // the end of RFU 0, STS_ID, STS_Stream_Type_ID, Encap_Ver 0 (tables 2 to 4)
-    infoword::close(word, id as u32 * 64 + kind * 8);
+    ending::close(word, id as u32 * 64 + kind * 8);
     0
 }

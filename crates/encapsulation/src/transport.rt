@@ -58,5 +58,5 @@ pub fn carry(kind: u32, count: u32, null: &[u8], word: &mut [u8])
         return;
     }
     fill_up(null, word, count as usize);
-    infoword::put_parts(word);
+    parts_put::put_parts(word);
 }

@@ -14,7 +14,7 @@ use Rattle.encapsulation.proofs.write.Lts as lts
 use Rattle.encapsulation.proofs.transport.carry.Reads as carry-reads
 use Rattle.encapsulation.proofs.packet.fill.Reads as fill-reads
 use Rattle.encapsulation.proofs.packet.refusal.Reads as refusal-reads
-use Rattle.infoword.proofs.close.Reads as close-reads
+use Rattle.ending.proofs.close.Reads as close-reads
 
 refusal-requires : tie.Need-refusal-requires
 refusal-requires c κs = search needs
