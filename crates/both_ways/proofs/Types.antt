@@ -26,7 +26,7 @@ use Rattle.infoword.proofs.Again.{last-four}
 use Rattle.infoword.specs.Word.{packetBytes, frontBytes, wordOf}
 use Rattle.infoword.proofs.Written.{packet-le, kind-back, rfu-back, zeros-back}
 use Rattle.encapsulation.specs.Writing.{packetOf, written}
-use Rattle.encapsulation.proofs.Faults.{Writable}
+use Rattle.write_faults.proofs.Faults.{Writable}
 use Rattle.encapsulation.proofs.Answers.{writes, wrote, carried-length}
 use Rattle.fields.specs.Report.{readRefusal}
 use Rattle.fields.proofs.Faults.{Readable, read-5}

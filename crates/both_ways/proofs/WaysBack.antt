@@ -25,8 +25,9 @@ use Rattle.infoword.proofs.Closing.{has-2, has-not, by-parity}
 use Rattle.infoword.proofs.Ending.{lead-rfu}
 use Rattle.infoword.proofs.Written.{front-long, front-short, packet-long, packet-le, word-length, id-back, kind-back, version-back, spare-back, lead-back, rfu-back, crc-back, packet-first, held-back}
 use Rattle.infoword.proofs.Again.{Sound, word-below, same-ending, word-again-1, word-again-2}
-use Rattle.encapsulation.specs.Writing.{packetOf, lentBytes, written}
-use Rattle.encapsulation.proofs.Faults.{Writable}
+use Rattle.write_faults.specs.Faults.{lentBytes}
+use Rattle.encapsulation.specs.Writing.{packetOf, written}
+use Rattle.write_faults.proofs.Faults.{Writable}
 use Rattle.encapsulation.proofs.Laid.{lent-2, lent-other}
 use Rattle.encapsulation.proofs.Answers.{writes, wrote, carried-length, packet-whole}
 use Rattle.fields.specs.Report.{noHeaderAt, holdingOf, headerOf}

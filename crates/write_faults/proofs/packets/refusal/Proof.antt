@@ -1,10 +1,10 @@
--- `encapsulation::transport::refusal` meets its contract. Assumes nothing.
+-- `write_faults::packets::refusal` meets its contract. Assumes nothing.
 use native.Mathlib.Omega.{arith}
 use borrow.Author.Tests.{eq-eqb, ne-eqb, lt-ltb, le-ltb}
-use Rattle.encapsulation.proofs.transport.refusal.Statement.{statement}
-use Rattle.encapsulation.proofs.transport.refusal.Tie as tie
-use Rattle.encapsulation.proofs.transport.refusal.Reads as reads
-use Rattle.encapsulation.proofs.transport.refusal.Lts as lts
+use Rattle.write_faults.proofs.packets.refusal.Statement.{statement}
+use Rattle.write_faults.proofs.packets.refusal.Tie as tie
+use Rattle.write_faults.proofs.packets.refusal.Reads as reads
+use Rattle.write_faults.proofs.packets.refusal.Lts as lts
 
 returns : tie.Need-returns
 returns c = simp (lt-ltb 8 (c .before .args .count) (omega (arith, c .if1 .taken)))

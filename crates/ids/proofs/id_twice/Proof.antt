@@ -1,4 +1,4 @@
--- `faults::id_twice` meets its contract. Assumes nothing.
+-- `ids::id_twice` meets its contract. Assumes nothing.
 use Prim.Native.Nat.{_+_, _-_, _*_, _≤_, _<_}
 use mathlib.Core.Path.{_≡_, sym, _∙_}
 use native.Mathlib.Omega.{arith}
@@ -6,11 +6,11 @@ use borrow.Author.Needs.{needs}
 use lib.ListN.{getD}
 use Rattle.bits.specs.Places.{fieldsAt}
 use Rattle.bits.proofs.Places.{field-lt, fields-length, fields-get}
-use Rattle.faults.proofs.Seen.{Seen, seen-none, seen-found, seen-more, seen-all}
-use Rattle.faults.proofs.id_twice.Statement.{statement}
-use Rattle.faults.proofs.id_twice.Tie as tie
-use Rattle.faults.proofs.id_twice.Reads as reads
-use Rattle.faults.proofs.id_twice.Lts as lts
+use Rattle.ids.proofs.Seen.{Seen, seen-none, seen-found, seen-more, seen-all}
+use Rattle.ids.proofs.id_twice.Statement.{statement}
+use Rattle.ids.proofs.id_twice.Tie as tie
+use Rattle.ids.proofs.id_twice.Reads as reads
+use Rattle.ids.proofs.id_twice.Lts as lts
 use Rattle.bits.proofs.field.Reads as field-reads
 
 abbrev Inv-loop : tie.InvT-loop

@@ -1,15 +1,15 @@
--- `faults::any_taps_wrong` meets its contract. Assumes nothing.
+-- `taps::any_taps_wrong` meets its contract. Assumes nothing.
 use mathlib.Core.Path.{sym, _∙_}
 use Prim.Native.Nat.{_-_, _<_}
 use native.Mathlib.Omega.{arith}
 use Rattle.sheets.proofs.Owning.{pipe-small}
-use Rattle.faults.proofs.Searches.{Tapped, taps-far, tapped-none, tapped-found, tapped-more, tapped-done}
+use Rattle.taps.proofs.Tapping.{Tapped, taps-far, tapped-none, tapped-found, tapped-more, tapped-done}
 use borrow.Author.Needs.{needs}
-use Rattle.faults.proofs.any_taps_wrong.Statement.{statement}
-use Rattle.faults.proofs.any_taps_wrong.Tie as tie
-use Rattle.faults.proofs.any_taps_wrong.Reads as reads
-use Rattle.faults.proofs.any_taps_wrong.Lts as lts
-use Rattle.faults.proofs.taps_wrong.Reads as taps-wrong-reads
+use Rattle.taps.proofs.any_taps_wrong.Statement.{statement}
+use Rattle.taps.proofs.any_taps_wrong.Tie as tie
+use Rattle.taps.proofs.any_taps_wrong.Reads as reads
+use Rattle.taps.proofs.any_taps_wrong.Lts as lts
+use Rattle.taps.proofs.taps_wrong.Reads as taps-wrong-reads
 use Rattle.records.proofs.pipe_at.Reads as pipe-at-reads
 
 abbrev Inv-loop : tie.InvT-loop

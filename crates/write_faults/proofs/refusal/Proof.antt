@@ -1,17 +1,17 @@
--- `encapsulation::packet::refusal` meets its contract. Assumes nothing.
+-- `write_faults::refusal` meets its contract. Assumes nothing.
 use Prim.Native.Nat.{_≤_}
 use mathlib.Core.Logic.{inl, inr}
 use mathlib.Core.Path.{_≡_, sym, _∙_}
 use native.Mathlib.Omega.{arith}
-use Rattle.encapsulation.specs.Writing.{lentBytes}
-use Rattle.encapsulation.proofs.Faults.{write-15, write-1, write-1-word, write-0, write-packets, packets-clear}
+use Rattle.write_faults.specs.Faults.{lentBytes}
+use Rattle.write_faults.proofs.Faults.{write-15, write-1, write-1-word, write-0, write-packets, packets-clear}
 use borrow.Author.Needs.{needs}
-use Rattle.encapsulation.proofs.packet.refusal.Statement.{statement}
-use Rattle.encapsulation.proofs.packet.refusal.Tie as tie
-use Rattle.encapsulation.proofs.packet.refusal.Reads as reads
-use Rattle.encapsulation.proofs.packet.refusal.Lts as lts
-use Rattle.encapsulation.proofs.packet.bytes.Reads as bytes-reads
-use Rattle.encapsulation.proofs.transport.refusal.Reads as refusal-reads
+use Rattle.write_faults.proofs.refusal.Statement.{statement}
+use Rattle.write_faults.proofs.refusal.Tie as tie
+use Rattle.write_faults.proofs.refusal.Reads as reads
+use Rattle.write_faults.proofs.refusal.Lts as lts
+use Rattle.write_faults.proofs.bytes.Reads as bytes-reads
+use Rattle.write_faults.proofs.packets.refusal.Reads as refusal-reads
 
 returns : tie.Need-returns
 returns c =

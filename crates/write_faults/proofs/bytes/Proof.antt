@@ -1,4 +1,4 @@
--- `encapsulation::packet::bytes` meets its contract. Assumes nothing.
+-- `write_faults::bytes` meets its contract. Assumes nothing.
 use Prim.Native.Nat.{_*_}
 use mathlib.Core.Path.{sym, _∙_}
 use native.Mathlib.Omega.{arith}
@@ -7,10 +7,10 @@ use lib.Dec.{eqb}
 use Rattle.ground.specs.Choice.{choose}
 use Rattle.ground.proofs.Choice.{choose-true, choose-false}
 use borrow.Author.Needs.{needs}
-use Rattle.encapsulation.proofs.packet.bytes.Statement.{statement}
-use Rattle.encapsulation.proofs.packet.bytes.Tie as tie
-use Rattle.encapsulation.proofs.packet.bytes.Reads as reads
-use Rattle.encapsulation.proofs.packet.bytes.Lts as lts
+use Rattle.write_faults.proofs.bytes.Statement.{statement}
+use Rattle.write_faults.proofs.bytes.Tie as tie
+use Rattle.write_faults.proofs.bytes.Reads as reads
+use Rattle.write_faults.proofs.bytes.Lts as lts
 
 mul-result : tie.Need-mul-result
 mul-result c = search needs

@@ -9,8 +9,8 @@ use borrow.Author.Tests.{eq-eqb, ne-eqb, lt-ltb, le-ltb, ltb-false}
 use lib.Dec.{eqb, ltb}
 use Rattle.ground.specs.Choice.{both, firstOf}
 use Rattle.ground.proofs.Choice.{no-difference, both-false, all-clear}
-use Rattle.encapsulation.specs.Writing.{lentBytes, writeFaults, writeRefusal}
-use Rattle.encapsulation.specs.Steps.{packetFaults}
+use Rattle.write_faults.specs.Faults.{lentBytes, writeFaults, writeRefusal}
+use Rattle.write_faults.specs.Inside.{packetFaults}
 
 -- what the writer asks, with the lengths of payload, null packet and word
 pub record Writable (kind count payload null word : ℕ) : Type 0 where

@@ -1,4 +1,4 @@
--- `faults::taps_wrong` meets its contract. Assumes nothing.
+-- `taps::taps_wrong` meets its contract. Assumes nothing.
 use mathlib.Core.Path.{sym, ap, _∙_}
 use mathlib.Core.Bool.{Bool, not}
 use Prim.Native.Nat.{ℕ}
@@ -10,11 +10,11 @@ use Rattle.bits.specs.Places.{fieldsAt}
 use Rattle.description.specs.Rows.{total}
 use Rattle.description.specs.Tests.{tapsOf}
 use borrow.Author.Needs.{needs}
-use Rattle.faults.proofs.taps_wrong.Statement.{statement}
-use Rattle.faults.proofs.taps_wrong.Tie as tie
-use Rattle.faults.proofs.taps_wrong.Reads as reads
-use Rattle.faults.proofs.taps_wrong.Lts as lts
-use Rattle.faults.proofs.taps_at.Reads as taps-at-reads
+use Rattle.taps.proofs.taps_wrong.Statement.{statement}
+use Rattle.taps.proofs.taps_wrong.Tie as tie
+use Rattle.taps.proofs.taps_wrong.Reads as reads
+use Rattle.taps.proofs.taps_wrong.Lts as lts
+use Rattle.taps.proofs.taps_at.Reads as taps-at-reads
 
 returns : tie.Need-returns
 returns c =

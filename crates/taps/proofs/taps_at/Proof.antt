@@ -1,4 +1,4 @@
--- `faults::taps_at` meets its contract. Assumes nothing.
+-- `taps::taps_at` meets its contract. Assumes nothing.
 use Prim.Native.Nat.{ℕ, _+_, _-_, _*_, _≤_}
 use mathlib.Core.Path.{_≡_, ap, _∙_}
 use native.Mathlib.Omega.{arith}
@@ -8,12 +8,12 @@ use Rattle.bits.specs.Places.{fieldsAt}
 use Rattle.bits.proofs.Places.{field-lt, fields-length}
 use Rattle.description.specs.Rows.{total}
 use Rattle.description.specs.Tests.{tapsOf}
-use Rattle.faults.proofs.Searches.{taps-more, taps-far}
+use Rattle.taps.proofs.Tapping.{taps-more, taps-far}
 use borrow.Author.Needs.{needs}
-use Rattle.faults.proofs.taps_at.Statement.{statement}
-use Rattle.faults.proofs.taps_at.Tie as tie
-use Rattle.faults.proofs.taps_at.Reads as reads
-use Rattle.faults.proofs.taps_at.Lts as lts
+use Rattle.taps.proofs.taps_at.Statement.{statement}
+use Rattle.taps.proofs.taps_at.Tie as tie
+use Rattle.taps.proofs.taps_at.Reads as reads
+use Rattle.taps.proofs.taps_at.Lts as lts
 use Rattle.bits.proofs.field.Reads as field-reads
 
 abbrev Inv-loop : tie.InvT-loop
