@@ -1,4 +1,4 @@
--- `rows::reversed` meets its contract: its formula is the rule at each of the 32 numbers, and the rule looks at no bit above the five. Assumes nothing.
+-- `reversal::reversed` meets its contract: its formula is the rule at each of the 32 numbers, and the rule looks at no bit above the five. Assumes nothing.
 use Prim.Native.Nat.{ℕ, _-_, _*_, _/_, _%_, _<_}
 use mathlib.Core.Path.{_≡_, _∙_}
 use native.Mathlib.Omega.{arith}
@@ -8,10 +8,10 @@ use Rattle.ground.specs.Table.{allBelow}
 use Rattle.ground.proofs.Table.{at-all}
 use Rattle.order.specs.Order.{reversed}
 use borrow.Author.Needs.{needs}
-use Rattle.rows.proofs.reversed.Statement.{statement}
-use Rattle.rows.proofs.reversed.Tie as tie
-use Rattle.rows.proofs.reversed.Reads as reads
-use Rattle.rows.proofs.reversed.Lts as lts
+use Rattle.reversal.proofs.reversed.Statement.{statement}
+use Rattle.reversal.proofs.reversed.Tie as tie
+use Rattle.reversal.proofs.reversed.Reads as reads
+use Rattle.reversal.proofs.reversed.Lts as lts
 
 -- a formula of the code's form, by its coefficients
 abbrev weighed : ℕ → ℕ → ℕ → ℕ → ℕ → ℕ → ℕ

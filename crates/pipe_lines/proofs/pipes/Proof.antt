@@ -1,11 +1,11 @@
--- `lines::pipes` meets its contract: after i turns the lines of i pipes are put. Assumes nothing.
+-- `pipe_lines::pipes` meets its contract: after i turns the lines of i pipes are put. Assumes nothing.
 use Prim.Native.Nat.{_-_}
 use borrow.Author.Needs.{needs}
-use Rattle.lines.proofs.Lined.{Lined, lined-none, lined-more, lined-all}
-use Rattle.lines.proofs.pipes.Statement.{statement}
-use Rattle.lines.proofs.pipes.Tie as tie
-use Rattle.lines.proofs.pipes.Reads as reads
-use Rattle.lines.proofs.pipes.Lts as lts
+use Rattle.pipe_lines.proofs.Lined.{Lined, lined-none, lined-more, lined-all}
+use Rattle.pipe_lines.proofs.pipes.Statement.{statement}
+use Rattle.pipe_lines.proofs.pipes.Tie as tie
+use Rattle.pipe_lines.proofs.pipes.Reads as reads
+use Rattle.pipe_lines.proofs.pipes.Lts as lts
 use Rattle.records.proofs.pipe_at.Reads as pipe-at-reads
 use Rattle.words.proofs.line.Reads as line-reads
 

@@ -1,11 +1,11 @@
--- `lines::tail` meets its contract. Assumes nothing.
+-- `pipe_lines::tail` meets its contract. Assumes nothing.
 use borrow.Author.Needs.{needs}
 use Rattle.words.proofs.Puts.{put-same}
-use Rattle.lines.proofs.Lined.{tail-unused, tail-used}
-use Rattle.lines.proofs.tail.Statement.{statement}
-use Rattle.lines.proofs.tail.Tie as tie
-use Rattle.lines.proofs.tail.Reads as reads
-use Rattle.lines.proofs.tail.Lts as lts
+use Rattle.pipe_lines.proofs.Lined.{tail-unused, tail-used}
+use Rattle.pipe_lines.proofs.tail.Statement.{statement}
+use Rattle.pipe_lines.proofs.tail.Tie as tie
+use Rattle.pipe_lines.proofs.tail.Reads as reads
+use Rattle.pipe_lines.proofs.tail.Lts as lts
 use Rattle.records.proofs.tail_at.Reads as tail-at-reads
 use Rattle.words.proofs.line.Reads as line-reads
 
