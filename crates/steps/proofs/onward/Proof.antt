@@ -1,11 +1,11 @@
--- `walk::plain::onward` meets its contract. Assumes nothing.
+-- `steps::onward` meets its contract. Assumes nothing.
 use mathlib.Core.Path.{refl}
 use native.Mathlib.Omega.{arith}
-use Rattle.walk.specs.Steps.{onward}
-use Rattle.walk.proofs.Places.{records-small}
+use Rattle.steps.specs.Steps.{onward}
+use Rattle.steps.proofs.Small.{records-small}
 use borrow.Author.Needs.{needs}
-use Rattle.walk.proofs.plain.onward.Statement.{statement}
-use Rattle.walk.proofs.plain.onward.Tie as tie
+use Rattle.steps.proofs.onward.Statement.{statement}
+use Rattle.steps.proofs.onward.Tie as tie
 
 mul-result : tie.Need-mul-result
 mul-result c = record { fits = omega (arith, records-small (c .fits .n .fits) (c .fits .width .fits)) }

@@ -1,9 +1,9 @@
--- `walk::plain::with_tail` meets its contract. Assumes nothing.
+-- `steps::with_tail` meets its contract. Assumes nothing.
 use mathlib.Core.Path.{refl}
-use Rattle.walk.specs.Steps.{withTail}
+use Rattle.steps.specs.Steps.{withTail}
 use borrow.Author.Needs.{needs}
-use Rattle.walk.proofs.plain.with_tail.Statement.{statement}
-use Rattle.walk.proofs.plain.with_tail.Tie as tie
+use Rattle.steps.proofs.with_tail.Statement.{statement}
+use Rattle.steps.proofs.with_tail.Tie as tie
 
 cast-t3 : tie.Need-cast-t3
 cast-t3 c = search needs

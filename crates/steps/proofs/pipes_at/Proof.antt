@@ -1,9 +1,9 @@
--- `walk::plain::pipes_at` meets its contract. Assumes nothing.
+-- `steps::pipes_at` meets its contract. Assumes nothing.
 use native.Mathlib.Omega.{arith}
 use Rattle.records.proofs.Fields.{read-lt}
 use borrow.Author.Needs.{needs}
-use Rattle.walk.proofs.plain.pipes_at.Statement.{statement}
-use Rattle.walk.proofs.plain.pipes_at.Tie as tie
+use Rattle.steps.proofs.pipes_at.Statement.{statement}
+use Rattle.steps.proofs.pipes_at.Tie as tie
 
 field-requires : tie.Need-field-requires
 field-requires c κs = search needs
