@@ -14,8 +14,9 @@ use Rattle.ground.proofs.Choice.{choose-true, choose-false}
 use Rattle.infoword.specs.Word.{packetBytes, wordOf}
 use Rattle.infoword.proofs.Closing.{has-2, has-not}
 use Rattle.infoword.proofs.Written.{packet-long}
-use Rattle.encapsulation.specs.Writing.{repeated, packetOf, writeRefusal, written}
-use Rattle.encapsulation.proofs.Faults.{Writable, write-accepts, writable}
+use Rattle.write_faults.specs.Faults.{writeRefusal}
+use Rattle.encapsulation.specs.Writing.{repeated, packetOf, written}
+use Rattle.write_faults.proofs.Faults.{Writable, write-accepts, writable}
 use Rattle.encapsulation.proofs.Laid.{lent-2, lent-other, packet-is, packet-other, packets-length}
 
 module _ (kind id count : ℕ) (p null w : List ℕ) (r : ℕ) (m : List ℕ) (o : Is (written kind id count p null w) r m) where

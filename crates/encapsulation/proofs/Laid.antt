@@ -22,9 +22,10 @@ use Rattle.infoword.proofs.Written.{filled-length}
 use Rattle.infoword.proofs.Closing.{has-not}
 use Rattle.infoword.proofs.Ending.{lead-long}
 use Rattle.infoword.proofs.Sealing.{header-number, word-short, word-long, parts-front}
-use Rattle.encapsulation.specs.Writing.{repeated, packetOf, lentBytes}
+use Rattle.write_faults.specs.Faults.{lentBytes}
+use Rattle.encapsulation.specs.Writing.{repeated, packetOf}
 use Rattle.encapsulation.specs.Steps.{filledUp, carried}
-use Rattle.encapsulation.proofs.Faults.{Writable}
+use Rattle.write_faults.proofs.Faults.{Writable}
 use Rattle.encapsulation.proofs.Stores.{repeated-length}
 
 -- how long the payload may be

@@ -1,4 +1,3 @@
-pub mod Faults
 pub mod Stores
 pub mod Laid
 pub mod Answers

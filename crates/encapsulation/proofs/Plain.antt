@@ -15,7 +15,8 @@ use Rattle.infoword.specs.Word.{filled, wordWith, wordOf}
 use Rattle.infoword.proofs.Closing.{has-not}
 use Rattle.infoword.proofs.Ending.{lead-short}
 use Rattle.infoword.proofs.Written.{front-short, parity-short}
-use Rattle.encapsulation.specs.Writing.{writeRefusal, written}
+use Rattle.write_faults.specs.Faults.{writeRefusal}
+use Rattle.encapsulation.specs.Writing.{written}
 use Rattle.encapsulation.specs.Claims.{plainWord, TypesZeroAndOne}
 use Rattle.encapsulation.proofs.Laid.{packet-other}
 

@@ -1,19 +1,12 @@
--- What the private steps of the writer answer and leave. No public promise cites it.
+-- What the private steps of the writer leave. No public promise cites it.
 -- Assumes nothing.
 use Prim.Native.Nat.{ℕ, _-_, _*_}
-use mathlib.Core.Bool.{not}
-use mathlib.Core.List.{List, [], _∷_, _++_}
-use lib.Dec.{eqb, ltb}
+use mathlib.Core.List.{List, _++_}
+use lib.Dec.{eqb}
 use lib.ListN.{take, drop}
-use Rattle.ground.specs.Choice.{choose, Fault, refuse}
+use Rattle.ground.specs.Choice.{choose}
 use Rattle.infoword.specs.Steps.{parted}
 use Rattle.encapsulation.specs.Writing.{repeated}
-
--- what is refused of a packet count and of the null packet's length
-abbrev pub packetFaults : ℕ → ℕ → List Fault
-packetFaults count null =
-    refuse 17 (ltb 8 count) ∷
-    refuse 1 (not (eqb null 188)) ∷ []
 
 -- null packets behind the first count of eight packets
 unfoldable pub filledUp : ℕ → List ℕ → List ℕ → List ℕ

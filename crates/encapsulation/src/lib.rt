@@ -11,13 +11,13 @@ ghost use Rattle.encapsulation.specs.Writing.{written};
 pub fn write(kind: u32, id: u8, count: u32, payload: &[u8], null: &[u8], word: &mut [u8]) -> u8
     ensures { λ r. ⌜ Is (written kind id count (now (payload .entry)) (now (null .entry)) (now (word .entry))) r (now (word .exit)) × (id < 256) ⌝ }
 {
-    let n = packet::refusal(kind, count, payload.len(), null.len(), word.len());
+    let n = write_faults::refusal(kind, count, payload.len(), null.len(), word.len());
     if 0 < n {
         return n;
     }
     packet::fill(payload, word);
     transport::carry(kind, count, null, word);
     // the end of RFU 0, STS_ID, STS_Stream_Type_ID, Encap_Ver 0 (tables 2 to 4)
-    infoword::close(word, id as u32 * 64 + kind * 8);
+    ending::close(word, id as u32 * 64 + kind * 8);
     0
 }

@@ -1,29 +1,12 @@
 // Stream type 2 (clause 4.3.3): up to eight transport stream packets, and null packets for those that are missing.
 use infoword::TRANSPORT_STREAM;
+use write_faults::TS_PACKET;
+use write_faults::TS_PACKETS;
 ghost use mathlib.Core.Path.{_≡_};
 ghost use Prim.Native.Nat.{_+_, _≤_};
 ghost use lib.ListN.{length};
 ghost use lib.Seq.{paste};
-ghost use Rattle.ground.specs.Choice.{firstOf};
-ghost use Rattle.encapsulation.specs.Steps.{packetFaults, filledUp, carried};
-
-// A packet, in bytes, and how many of them a word carries.
-pub const TS_PACKET: usize = 188;
-
-const TS_PACKETS: u32 = 8;
-
-// The refusal of a packet count and of the null packet's length.
-pub fn refusal(count: u32, null: usize) -> u8
-    ensures { λ r. ⌜ r ≡ firstOf (packetFaults count null) ⌝ }
-{
-    if TS_PACKETS < count {
-        return ground::COUNT_ABOVE_8;
-    }
-    if null != TS_PACKET {
-        return ground::LENGTH_WRONG;
-    }
-    0
-}
+ghost use Rattle.encapsulation.specs.Steps.{filledUp, carried};
 
 // A packet at a place.
 fn put(packet: &[u8], word: &mut [u8], at: usize)
@@ -58,5 +41,5 @@ pub fn carry(kind: u32, count: u32, null: &[u8], word: &mut [u8])
         return;
     }
     fill_up(null, word, count as usize);
-    infoword::put_parts(word);
+    parts_put::put_parts(word);
 }

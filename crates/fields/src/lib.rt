@@ -1,4 +1,4 @@
-// The fields of a payload word's header (clause 4.3), and what is refused of them.
+// What is refused of a payload word (clause 4.3), and the form of what is reported of its header.
 use ground::ADDRESS_WRONG;
 use ground::CRC_WRONG;
 use ground::ENCAP_NOT_0;
@@ -8,20 +8,14 @@ use ground::PAYLOAD_WORD;
 use ground::SPARE_SET;
 use ground::TYPE_UNKNOWN;
 use infoword::IP_STREAM;
-use infoword::RFU;
-use infoword::RFU_WITH_PARITY;
 use infoword::STREAM_TYPE;
-use infoword::TRANSPARENT;
-use infoword::TRANSPARENT_BYTES;
-use infoword::TRANSPORT_BYTES;
 ghost use mathlib.Core.Path.{_≡_};
 ghost use Prim.Native.Nat.{_≤_, _<_};
 ghost use lib.Dec.{eqb};
 ghost use Rattle.ground.specs.Choice.{choose};
 ghost use Rattle.bits.specs.Places.{fieldAt};
-ghost use Rattle.infoword.specs.Suffix.{kindOf, addressOf, rfuOf};
-ghost use Rattle.infoword.specs.Word.{packetBytes};
-ghost use Rattle.fields.specs.Report.{noHeaderAt, readRefusal, holdingOf, headerOf};
+ghost use Rattle.infoword.specs.Suffix.{addressOf};
+ghost use Rattle.fields.specs.Report.{noHeaderAt, readRefusal};
 
 // What is reported of a word that is accepted: the fields of its header as they stand, which of its parity parts hold (bit k for part
 // k), and First_Header_Address, which is 0 for the stream types that have none.
@@ -37,9 +31,9 @@ pub struct Header {
 // Where the header's other fields stand (tables 2 to 5), in bits.
 pub const FIRST_HEADER_ADDRESS: usize = 12248;
 
-const STREAM_ID: usize = 12260;
+pub const STREAM_ID: usize = 12260;
 
-const ENCAP_VER: usize = 12271;
+pub const ENCAP_VER: usize = 12271;
 
 const HEADER_CRC: usize = 12274;
 
@@ -87,9 +81,8 @@ pub fn refusal(word: &[u8]) -> u8
 }
 
 // First_Header_Address of type 3 (table 5), and 0 for any other.
-fn address_of(word: &[u8], kind: u32) -> u32
-    requires { ⌜ kind ≡ kindOf (now word) ⌝ }
-    ensures { λ r. ⌜ (r ≡ choose (eqb (kindOf (now (word .entry))) 3) (addressOf (now (word .entry))) 0) × (r < 4096) ⌝ }
+pub fn address_of(word: &[u8], kind: u32) -> u32
+    ensures { λ r. ⌜ (r ≡ choose (eqb kind 3) (addressOf (now (word .entry))) 0) × (r < 4096) ⌝ }
 {
     if kind == IP_STREAM {
         return bits::field(word, FIRST_HEADER_ADDRESS, 12);
@@ -105,62 +98,4 @@ fn no_header_at(address: u32) -> bool
         return false;
     }
     address < NO_HEADER
-}
-
-// RFU, by stream type: 32 bits in type 2 (table 4), 20 in type 3 (table 5), 4 in any other.
-fn rfu_of(word: &[u8], kind: u32) -> u32
-    requires { ⌜ kind ≡ kindOf (now word) ⌝ }
-    ensures { λ r. ⌜ r ≡ rfuOf (now (word .entry)) ⌝ }
-{
-    if kind == IP_STREAM {
-        return bits::field(word, RFU_WITH_PARITY, 20);
-    }
-    if infoword::has_parity(kind) {
-        return bits::field(word, RFU_WITH_PARITY, 32);
-    }
-    bits::field(word, RFU, 4)
-}
-
-// Which parity parts hold, by stream type: types 2 and 3 have four, any other none.
-fn parity_of(word: &[u8], kind: u32) -> u8
-    requires { ⌜ kind ≡ kindOf (now word) ⌝ }
-    ensures { λ r. ⌜ r ≡ holdingOf (now (word .entry)) ⌝ }
-{
-    if infoword::has_parity(kind) {
-        return parity::held(word);
-    }
-    0
-}
-
-// What is reported of a word.
-pub fn header_of(word: &[u8]) -> Header
-    ensures { λ r. ⌜ r ≡ headerOf (now (word .entry)) ⌝ }
-{
-    let kind = bits::field(word, STREAM_TYPE, 3);
-    let rfu = rfu_of(word, kind);
-    let id = field(word, STREAM_ID, 8);
-    let version = field(word, ENCAP_VER, 3);
-    let parity = parity_of(word, kind);
-    let address = address_of(word, kind) as u16;
-    Header {
-        rfu,
-        id,
-        kind: kind as u8,
-        version,
-        parity,
-        address,
-    }
-}
-
-// How many bytes the payload packet of a stream type has (table 1).
-pub fn bytes(kind: u32) -> usize
-    ensures { λ r. ⌜ (r ≡ packetBytes kind) × (r ≤ 1532) ⌝ }
-{
-    if infoword::has_parity(kind) {
-        return TRANSPORT_BYTES;
-    }
-    if kind == TRANSPARENT {
-        return TRANSPARENT_BYTES;
-    }
-    0
 }

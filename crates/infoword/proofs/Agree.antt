@@ -4,7 +4,6 @@ use mathlib.Core.Path.{_≡_}
 use contract.Lifetimes.{Lfts}
 use borrow.Fn.World.{ArgsD, ResD}
 use borrow.Fn.Kinds.{endedOf}
-use denote.Ref.{now}
 use denote.Triple.Clauses.{AtExit}
 use Rattle.ground.proofs.Outcome.{same}
 use Rattle.infoword.proofs.has_parity as has-parity
@@ -13,12 +12,9 @@ use Rattle.infoword.proofs.has_parity.Reads as has-parity-reads
 use Rattle.infoword.proofs.crc as crc
 use Rattle.infoword.proofs.crc.Kinds as crc-kinds
 use Rattle.infoword.proofs.crc.Reads as crc-reads
-use Rattle.infoword.proofs.put_parts as put-parts
-use Rattle.infoword.proofs.put_parts.Kinds as put-parts-kinds
-use Rattle.infoword.proofs.put_parts.Reads as put-parts-reads
-use Rattle.infoword.proofs.close as close
-use Rattle.infoword.proofs.close.Kinds as close-kinds
-use Rattle.infoword.proofs.close.Reads as close-reads
+use Rattle.infoword.proofs.bytes as bytes
+use Rattle.infoword.proofs.bytes.Kinds as bytes-kinds
+use Rattle.infoword.proofs.bytes.Reads as bytes-reads
 
 module _ (κs : Lfts 0) (a : ArgsD has-parity.signature κs) where
   pub has-parity-agrees : (r r′ : ResD has-parity.signature κs) (s s′ : AtExit (endedOf 0 has-parity-kinds.ps has-parity-kinds.r) κs) →
@@ -30,12 +26,7 @@ module _ (κs : Lfts 1) (a : ArgsD crc.signature κs) where
       crc-reads.Post κs a r s → crc-reads.Post κs a r′ s′ → r ≡ r′
   crc-agrees r r′ s s′ p q = same p q
 
-module _ (κs : Lfts 1) (a : ArgsD put-parts.signature κs) where
-  pub put-parts-agrees : (r r′ : ResD put-parts.signature κs) (s s′ : AtExit (endedOf 1 put-parts-kinds.ps put-parts-kinds.r) κs) →
-      put-parts-reads.Post κs a r s → put-parts-reads.Post κs a r′ s′ → now (s .0) ≡ now (s′ .0)
-  put-parts-agrees r r′ s s′ p q = same p q
-
-module _ (κs : Lfts 1) (a : ArgsD close.signature κs) where
-  pub close-agrees : (r r′ : ResD close.signature κs) (s s′ : AtExit (endedOf 1 close-kinds.ps close-kinds.r) κs) →
-      close-reads.Post κs a r s → close-reads.Post κs a r′ s′ → now (s .0) ≡ now (s′ .0)
-  close-agrees r r′ s s′ p q = same p q
+module _ (κs : Lfts 0) (a : ArgsD bytes.signature κs) where
+  pub bytes-agrees : (r r′ : ResD bytes.signature κs) (s s′ : AtExit (endedOf 0 bytes-kinds.ps bytes-kinds.r) κs) →
+      bytes-reads.Post κs a r s → bytes-reads.Post κs a r′ s′ → r ≡ r′
+  bytes-agrees r r′ s s′ p q = same (p .0) (q .0)

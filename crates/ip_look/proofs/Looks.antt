@@ -34,8 +34,8 @@ faulty-shown a b h s = ap unfitHead (sym s)
 
 module _ (l : List ℕ) (from at : ℕ) (left : walkFrom from l .refused ≡ walkFrom at l .refused) where
   -- no header fits
-  pub look-end : (r : Bool) → length l ≤ at + 1 → r ≡ stray (drop at l) → r ≡ walkFrom from l .refused
-  look-end r h e = e ∙ sym (end-refused l at h) ∙ sym left
+  pub look-end : (r : Bool) {place : ℕ} → length l ≤ at + 1 → r ≡ stray (drop place l) → place ≡ at → r ≡ walkFrom from l .refused
+  look-end r h e p = e ∙ ap (λ (k : ℕ). stray (drop k l)) p ∙ sym (end-refused l at h) ∙ sym left
 
   module _ (h : at + 1 < length l) where
     pub look-padding : (r : Bool) → stuffing (getD l at 0) (getD l (at + 1) 0) ≡ true → r ≡ stray (drop (at + 2) l) → r ≡ walkFrom from l .refused

@@ -12,7 +12,7 @@ use Rattle.ground.proofs.Choice.{choose-true, choose-false}
 use Rattle.ground.proofs.Refusing.{refusal-leaves, acceptance-leaves}
 use Rattle.infoword.specs.Suffix.{kindOf}
 use Rattle.fields.specs.Report.{headerOf}
-use Rattle.payload.specs.Answers.{headerWith, headerBytes}
+use Rattle.header_bytes.specs.Bytes.{headerWith, headerBytes}
 use Rattle.ip.specs.Read.{Got}
 use Rattle.ip.specs.Memory.{queue, openBytes}
 use Rattle.ip_look.specs.Looking.{gotOf, ipFaults}

@@ -8,7 +8,7 @@ use Rattle.ground.specs.Outcome.{Outcome}
 use Rattle.ground.specs.Choice.{choose, firstOf, refusing}
 use Rattle.infoword.specs.Suffix.{kindOf}
 use Rattle.fields.specs.Report.{headerOf}
-use Rattle.payload.specs.Answers.{headerWith, headerBytes}
+use Rattle.header_bytes.specs.Bytes.{headerWith, headerBytes}
 use Rattle.ip.specs.Packet.{Packet}
 use Rattle.ip.specs.Memory.{queue, openBytes}
 use Rattle.ip_look.specs.Looking.{gotOf, ipFaults}

@@ -18,12 +18,12 @@ pub fn read(word: &[u8], memory: &mut [u8], packets: &mut [u8], header: &mut [u8
         return n;
     }
     // nothing is refused: n is 0, and the answer
-    let h = fields::header_of(word);
+    let h = header::header_of(word);
     if h.kind as u32 != IP_STREAM {
-        payload::put_header(header, h, 0);
+        header_bytes::put_header(header, h, 0);
         return n;
     }
     let handed = taking::take_in(&word[..PAYLOAD], h.address as usize, memory, packets);
-    payload::put_header(header, h, handed as u16);
+    header_bytes::put_header(header, h, handed as u16);
     n
 }

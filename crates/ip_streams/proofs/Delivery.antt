@@ -14,7 +14,7 @@ use Rattle.infoword.specs.Suffix.{kindOf, addressOf}
 use Rattle.infoword.specs.Word.{ipWord}
 use Rattle.fields.specs.Report.{noHeaderAt}
 use Rattle.fields.proofs.Faults.{Readable}
-use Rattle.payload.proofs.IpWords.{ip-kind, ip-address, ip-payload, ip-readable}
+use Rattle.both_ways.proofs.IpWords.{ip-kind, ip-address, ip-payload, ip-readable}
 use Rattle.ip.specs.Packet.{Packet, AllFit}
 use Rattle.ip.specs.Write.{announced, address, wordFill, InPlace, toCome}
 use Rattle.ip.specs.Read.{Open, none, Sound, gives, reading}

@@ -19,7 +19,7 @@ use Rattle.infoword.specs.Suffix.{kindOf, addressOf}
 use Rattle.fields.specs.Report.{headerOf}
 use Rattle.fields.specs.declared.Header.{Header}
 use Rattle.fields.proofs.Faults.{Readable}
-use Rattle.payload.specs.Answers.{headerWith, headerBytes}
+use Rattle.header_bytes.specs.Bytes.{headerWith, headerBytes}
 use Rattle.ip.specs.Packet.{Packet, AllFit}
 use Rattle.ip.specs.Read.{Open, none, Sound, Got, gives, room}
 use Rattle.ip.specs.Memory.{queue, queueIn, openBytes, openIn}

@@ -7,9 +7,9 @@ use native.Mathlib.Omega.{arith}
 use lib.ListN.{length}
 use Rattle.fields.specs.Report.{readRefusal, headerOf}
 use Rattle.fields.proofs.Faults.{Readable}
-use Rattle.payload.specs.Damage.{OneBit}
-use Rattle.payload.proofs.IpWords.{ip-readable, ip-header}
-use Rattle.payload.proofs.IpDamage.{ip-damaged}
+use Rattle.both_ways.specs.Damage.{OneBit}
+use Rattle.both_ways.proofs.IpWords.{ip-readable, ip-header}
+use Rattle.both_ways.proofs.IpDamage.{ip-damaged}
 use Rattle.ip.specs.Packet.{Packet}
 use Rattle.ip.specs.Write.{address, wordFill, toCome}
 use Rattle.ip.specs.Memory.{queueIn}

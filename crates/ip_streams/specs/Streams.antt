@@ -8,7 +8,7 @@ use lib.ListN.{length, replicate, drop}
 use Rattle.infoword.specs.Suffix.{kindOf}
 use Rattle.infoword.specs.Word.{ipWord}
 use Rattle.fields.specs.declared.Header.{Header}
-use Rattle.payload.specs.Damage.{OneBit}
+use Rattle.both_ways.specs.Damage.{OneBit}
 use Rattle.ip.specs.Packet.{Packet, AllFit}
 use Rattle.ip.specs.Write.{address}
 use Rattle.ip.specs.Read.{Open, Sound}

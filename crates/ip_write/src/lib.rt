@@ -44,10 +44,10 @@ fn close(word: &mut [u8], id: u8, address: u32)
     requires { ⌜ (length (now word) ≡ 1536) × (address < 4096) ⌝ }
     ensures { λ _. ⌜ now (word .exit) ≡ ipWord id address (take 1504 (now (word .entry))) ⌝ }
 {
-    infoword::put_parts(word);
+    parts_put::put_parts(word);
     word[ADDRESS] = (address / 16) as u8;
     // the end of the address, STS_ID, STS_Stream_Type_ID, Encap_Ver 0
-    infoword::close(
+    ending::close(
         word,
         address % 16 * 0x4000 + (id as u32 * 64 + IP_STREAM * 8),
     );

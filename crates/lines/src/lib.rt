@@ -1,42 +1,10 @@
-// The lines of an accepted sheet's listing (document 01, "Points on either side"), put into a buffer: each function returns the place behind its text.
+// The lines of an accepted sheet's listing (document 01, "Points on either side"), put into a buffer.
 use views::FORM1;
 ghost use Rattle.ground.specs.Outcome.{Is};
 ghost use Rattle.description.specs.Sheet.{form1};
-ghost use Rattle.description.specs.Fields.{table16, table16b};
-ghost use Rattle.views.specs.Rows.{rowAt, rowsAt};
 ghost use Rattle.views.specs.View.{sheetView, listsAt};
 ghost use Rattle.words.specs.Words.{put};
-ghost use Rattle.lines.specs.Lines.{pipeLines, tailLine, accepted};
-
-// The lines of p payload pipes, whose records begin at a place.
-fn pipes(sheet: &[u8], at: u32, p: u8, out: &mut [u8], to: usize) -> usize
-    ensures { λ r. ⌜ Is (put (now (out .entry)) to (pipeLines 1 (rowsAt table16 48 p (now (sheet .entry)) at))) r (now (out .exit)) ⌝ }
-{
-    let mut next = to;
-    let mut i: u8 = 0;
-    while i < p {
-        let q = records::pipe_at(sheet, at, i);
-        next = words::line(
-            out,
-            next,
-            b"pipe # pattern=# width=# streams=# sections=#\n",
-            &[i as u32 + 1, q.pattern, q.width, q.s as u32, q.d as u32],
-        );
-        i += 1;
-    }
-    next
-}
-
-// The line of the tail.
-fn tail(sheet: &[u8], at: u32, out: &mut [u8], to: usize) -> usize
-    ensures { λ r. ⌜ Is (put (now (out .entry)) to (tailLine (rowAt table16b (now (sheet .entry)) at))) r (now (out .exit)) ⌝ }
-{
-    let width = records::tail_at(sheet, at);
-    if width == 0 {
-        return words::line(out, to, b"tail unused\n", &[]);
-    }
-    words::line(out, to, b"tail width=#\n", &[width])
-}
+ghost use Rattle.lines.specs.Lines.{accepted};
 
 // All lines, of a sheet with p payload pipes, s streams and d sections.
 pub fn lines(sheet: &[u8], p: u8, s: u16, d: u16, out: &mut [u8]) -> usize
@@ -50,7 +18,7 @@ pub fn lines(sheet: &[u8], p: u8, s: u16, d: u16, out: &mut [u8]) -> usize
         b"multiplex operator=# frame=# pipes=# streams=# sections=#\n",
         &[m.operator, m.frame, p as u32, s as u32, d as u32],
     );
-    let to = pipes(sheet, v.pipes, p, out, to);
-    let to = tail(sheet, v.tail, out, to);
+    let to = pipe_lines::pipes(sheet, v.pipes, p, out, to);
+    let to = pipe_lines::tail(sheet, v.tail, out, to);
     words::line(out, to, b"ok\n", &[])
 }

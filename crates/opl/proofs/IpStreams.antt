@@ -13,8 +13,8 @@ use lib.ListN.{length}
 use Rattle.ground.proofs.Outcome.{agree}
 use Rattle.fields.specs.Report.{headerOf}
 use Rattle.fields.proofs.Faults.{Readable, read-0}
-use Rattle.payload.specs.Answers.{headerBytes}
-use Rattle.payload.specs.Damage.{OneBit}
+use Rattle.header_bytes.specs.Bytes.{headerBytes}
+use Rattle.both_ways.specs.Damage.{OneBit}
 use Rattle.payload.proofs.Answers.{into-refused, into-done}
 use Rattle.opl.proofs.opl_payload_read as opl-payload-read
 use Rattle.opl.proofs.opl_payload_read.Kinds as opl-payload-read-kinds

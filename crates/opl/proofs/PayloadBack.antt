@@ -23,12 +23,13 @@ use Rattle.infoword.specs.Word.{packetBytes}
 use Rattle.encapsulation.specs.Writing.{packetOf}
 use Rattle.encapsulation.specs.Claims.{plainWord}
 use Rattle.encapsulation.proofs.Plain.{types-0-and-1}
-use Rattle.payload.specs.Answers.{writtenHeader, headerBytes}
-use Rattle.payload.specs.Damage.{OneBit, OddIn, PartSeenIn}
+use Rattle.header_bytes.specs.Bytes.{headerBytes}
+use Rattle.payload.specs.Answers.{writtenHeader}
+use Rattle.both_ways.specs.Damage.{OneBit, OddIn, PartSeenIn}
 use Rattle.payload.proofs.Answers.{into-refused}
-use Rattle.payload.proofs.Types.{written-damaged}
-use Rattle.payload.proofs.WaysBack.{header-after, packet-after}
-use Rattle.payload.proofs.InBytes.{into-damaged, into-means, into-part-seen}
+use Rattle.both_ways.proofs.Types.{written-damaged}
+use Rattle.both_ways.proofs.WaysBack.{header-after, packet-after}
+use Rattle.both_ways.proofs.InBytes.{into-damaged, into-means, into-part-seen}
 use Rattle.opl.proofs.opl_payload_write as opl-payload-write
 use Rattle.opl.proofs.opl_payload_write.Kinds as opl-payload-write-kinds
 use Rattle.opl.proofs.opl_payload_write.Reads as opl-payload-write-reads

@@ -8,4 +8,3 @@ pub mod Sound
 pub mod Received
 pub mod Which
 pub mod Agree
-pub mod Promised

@@ -1,5 +1,5 @@
 -- What is asked of the parity part, as propositions. The theorems say that they hold, and some of them hold of the functions' own promises too
--- (proofs/Promised.antt).
+-- (parts/proofs/Promised.antt, parts_held/proofs/Promised.antt).
 -- Assumes nothing.
 use Prim.Native.Nat.{ℕ, _*_, _%_, _^_}
 use mathlib.Core.Bool.{true, false}

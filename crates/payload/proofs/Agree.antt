@@ -14,9 +14,6 @@ use Rattle.payload.proofs.read.Reads as read-reads
 use Rattle.payload.proofs.payload_of as payload-of
 use Rattle.payload.proofs.payload_of.Kinds as payload-of-kinds
 use Rattle.payload.proofs.payload_of.Reads as payload-of-reads
-use Rattle.payload.proofs.put_header as put-header
-use Rattle.payload.proofs.put_header.Kinds as put-header-kinds
-use Rattle.payload.proofs.put_header.Reads as put-header-reads
 use Rattle.payload.proofs.read_into as read-into
 use Rattle.payload.proofs.read_into.Kinds as read-into-kinds
 use Rattle.payload.proofs.read_into.Reads as read-into-reads
@@ -30,11 +27,6 @@ module _ (κs : Lfts 1) (a : ArgsD payload-of.signature κs) where
   pub payload-of-agrees : (r r′ : ResD payload-of.signature κs) (s s′ : AtExit (endedOf 1 payload-of-kinds.ps payload-of-kinds.r) κs) →
       payload-of-reads.Post κs a r s → payload-of-reads.Post κs a r′ s′ → now r ≡ now r′
   payload-of-agrees r r′ s s′ p q = same p q
-
-module _ (κs : Lfts 1) (a : ArgsD put-header.signature κs) where
-  pub put-header-agrees : (r r′ : ResD put-header.signature κs) (s s′ : AtExit (endedOf 1 put-header-kinds.ps put-header-kinds.r) κs) →
-      put-header-reads.Post κs a r s → put-header-reads.Post κs a r′ s′ → now (s .0) ≡ now (s′ .0)
-  put-header-agrees r r′ s s′ p q = same p q
 
 module _ (κs : Lfts 2) (a : ArgsD read-into.signature κs) where
   pub read-into-agrees : (r r′ : ResD read-into.signature κs) (s s′ : AtExit (endedOf 2 read-into-kinds.ps read-into-kinds.r) κs) →

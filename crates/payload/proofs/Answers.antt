@@ -15,8 +15,9 @@ use Rattle.ground.proofs.Refusing.{refusal-leaves, acceptance-leaves}
 use Rattle.infoword.specs.Suffix.{kindOf}
 use Rattle.infoword.specs.Word.{packetBytes}
 use Rattle.fields.specs.Report.{readRefusal, headerOf}
-use Rattle.payload.specs.Answers.{valuesOf, told, reading, shown, headerWith, headerBytes, headerPut, readInto}
+use Rattle.payload.specs.Answers.{valuesOf, told, reading, shown, readInto}
 use Rattle.fields.specs.declared.Header.{Header}
+use Rattle.header_bytes.specs.Bytes.{headerBytes}
 use Rattle.payload.specs.declared.Reading.{Reading}
 use Rattle.payload.specs.declared.Reading.the-variants.{Accepted, Refused}
 
@@ -94,11 +95,6 @@ module _ (w out : List ℕ) where
   pub into-done : length out ≡ 16 → 0 ≡ readRefusal w → (m : List ℕ) → m ≡ headerBytes (headerOf w) → Is (readInto w out) 0 m
   unfolding readInto readRefusal
   into-done l e m h = acceptance-leaves _ _ out (sym (simp (eq-eqb (length out) 16 l) e)) h
-
--- a header that is put into 16 bytes
-pub header-put : (h : Header) (n : ℕ) (out : List ℕ) → length out ≡ 16 → headerPut h n out ≡ headerWith h n
-unfolding headerPut
-header-put h n out l = choose-true (headerWith h n) out (eq-eqb (length out) 16 l)
 
 -- what is told determines the answer
 pub told-inj : (r r' : Reading) → told r ≡ told r' → r ≡ r'

@@ -2,16 +2,16 @@
 -- Assumes nothing.
 use Prim.Native.Nat.{ℕ}
 use mathlib.Core.Bool.{not}
-use mathlib.Core.List.{List, [], _∷_, _++_}
+use mathlib.Core.List.{List, [], _∷_}
 use lib.Dec.{eqb}
-use lib.ListN.{length, take, replicate}
+use lib.ListN.{length, take}
 use Rattle.ground.specs.Outcome.{Outcome, Told}
 use Rattle.ground.specs.Choice.{choose, refuse, firstOf, refusing}
-use Rattle.bits.specs.Lists.{bits, pack}
 use Rattle.infoword.specs.Suffix.{kindOf}
 use Rattle.infoword.specs.Word.{packetBytes}
 use Rattle.fields.specs.Report.{readFaults, readRefusal, headerOf}
 use Rattle.fields.specs.declared.Header.{Header}
+use Rattle.header_bytes.specs.Bytes.{headerBytes}
 use Rattle.payload.specs.declared.Reading.{Reading}
 use Rattle.payload.specs.declared.Reading.the-variants.{Accepted, Refused}
 
@@ -35,20 +35,6 @@ reading w = record { number = readRefusal w; values = choose (eqb (readRefusal w
 -- the payload shown of a word: the packet of its stream type where it is accepted, as it stands in the word, else nothing
 unfoldable pub shown : List ℕ → List ℕ
 shown w = choose (eqb (readRefusal w) 0) (take (packetBytes (kindOf w)) w) []
-
--- the header as the C interface has it: RFU as a 32-bit number, stream id, stream type, Encap_Ver, parity, First_Header_Address as a 16-bit
--- number, how many bytes of packets were handed out as another, four zero bytes
-unfoldable pub headerWith : Header → ℕ → List ℕ
-headerWith h handed =
-    pack 4 (bits 32 (h .rfu)) ++ (h .id ∷ h .kind ∷ h .version ∷ h .parity ∷ []) ++ pack 2 (bits 16 (h .address)) ++ pack 2 (bits 16 handed) ++ replicate 4 0
-
--- where none are handed out
-abbrev pub headerBytes : Header → List ℕ
-headerBytes h = headerWith h 0
-
--- it is put into 16 bytes
-unfoldable pub headerPut : Header → ℕ → List ℕ → List ℕ
-headerPut h handed out = choose (eqb (length out) 16) (headerWith h handed) out
 
 -- the header read into 16 bytes: their length is looked at with the word's
 unfoldable pub readInto : List ℕ → List ℕ → Outcome ℕ (List ℕ)

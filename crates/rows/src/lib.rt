@@ -4,7 +4,6 @@ ghost use mathlib.Core.Path.{_≡_};
 ghost use mathlib.Core.List.{[], _∷_};
 ghost use Prim.Native.Nat.{_+_, _<_};
 ghost use Rattle.bits.specs.Places.{number};
-ghost use Rattle.order.specs.Order.{reversed};
 ghost use Rattle.rows.specs.Spelt.{digits, twice, rowsOf};
 ghost use Rattle.rows.specs.Inside.{Place, pairAt, sixOf};
 
@@ -14,20 +13,12 @@ fn wide(x: u8) -> u64
     x as u64
 }
 
-// Five bits, reversed (clause 4.4.4): bit k, which is v / 2^k less twice v / 2^(k + 1), goes to the place 4 - k.
-fn reversed(x: usize) -> usize
-    ensures { λ r. ⌜ r ≡ reversed x ⌝ }
-{
-    let v = x % 32;
-    16 * v - 24 * (v / 2) - 12 * (v / 4) - 6 * (v / 8) - 3 * (v / 16)
-}
-
 // The pair at the place t of the row j, by an entry of table 10. The counter's low numbers that end in two ones give addresses behind the block and are passed over.
 fn pair(d: &[u8], size: usize, j: usize, t: usize, entry: usize) -> u64
     requires { ⌜ Place (now d) size j t entry ⌝ }
     ensures { λ r. ⌜ (r ≡ pairAt (now (d .entry)) size j t entry) × (r < 256) ⌝ }
 {
-    wide(d[reversed(t + t / 3) * size + j * entry % size])
+    wide(d[reversal::reversed(t + t / 3) * size + j * entry % size])
 }
 
 // The pairs at six places from t on: their first bits spell six bits of a row, and their second bits those of the row that is read with it.

@@ -30,8 +30,8 @@ use Rattle.infoword.proofs.Again.{last-lead}
 use Rattle.encapsulation.specs.Writing.{written}
 use Rattle.fields.specs.Report.{readRefusal}
 use Rattle.fields.proofs.Faults.{Readable, read-5}
-use Rattle.payload.proofs.Registers.{before, behind, register, of-46, of-18, behind-lt, covered-of, header-sum}
-use Rattle.payload.proofs.Types.{written-sound}
+use Rattle.both_ways.proofs.Registers.{before, behind, register, of-46, of-18, behind-lt, covered-of, header-sum}
+use Rattle.both_ways.proofs.Types.{written-sound}
 
 -- ---- the register by stream type, where RFU is zero: before STS_ID, and after Encap_Ver 0
 

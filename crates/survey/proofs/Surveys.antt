@@ -39,9 +39,11 @@ module _ (w : List ℕ) (n : length w ≡ 96) where
   long : length (unpack w) ≡ 768
   long = unpack-length w ∙ omega arith
 
-  pub spare-is : {r : Bool} → r ≡ anySet (slice 762 768 (unpack w)) → spareFault (unpack w) ≡ r
+  -- from where and up to where a bit is looked for comes by itself, so that another place is told from these by one comparison
+  pub spare-is : {r : Bool} {from to : ℕ} → r ≡ anySet (slice from to (unpack w)) → from ≡ 762 → to ≡ 768 → spareFault (unpack w) ≡ r
   unfolding spareFault
-  spare-is e = sym (e ∙ ap (λ (b : List ℕ). anySet (drop 762 b)) (take-all 768 (unpack w) (omega (arith, long))))
+  spare-is e f t =
+      sym (e ∙ ap₂ (λ (a z : ℕ). anySet (slice a z (unpack w))) f t ∙ ap (λ (b : List ℕ). anySet (drop 762 b)) (take-all 768 (unpack w) (omega (arith, long))))
 
   sent-is : fieldAt w 750 12 ≡ num (take 12 (drop 750 (unpack w)))
   sent-is = field-num w 750 12 (omega arith) (omega arith)
@@ -125,9 +127,9 @@ module _ (w : List ℕ) (n : length w ≡ 96) where
       unfolding tourOf
       d-found = ap (λ (x : Toured). x .d) e ∙ d-is few
 
-      pub padding-is : {r : Bool} → r ≡ anySet (slice (t .end) 750 (unpack w)) → paddingFault (unpack w) ≡ r
+      pub padding-is : {r : Bool} {from to : ℕ} → r ≡ anySet (slice from to (unpack w)) → from ≡ t .end → to ≡ 750 → paddingFault (unpack w) ≡ r
       unfolding paddingFault
-      padding-is f = sym (f ∙ (λ i. anySet (slice ((end-is ∙ (λ j. size (p-is j) (s-is few j) (d-is few j))) i) 750 (unpack w))))
+      padding-is f x y = sym (f ∙ ap₂ (λ (a z : ℕ). anySet (slice a z (unpack w))) x y ∙ (λ i. anySet (slice ((end-is ∙ (λ j. size (p-is j) (s-is few j) (d-is few j))) i) 750 (unpack w))))
 
       -- what the last three tests find, in the lists where the view says
       pub judge-is : (v : View) → v ≡ wordView (t .p) (t .s) → {r : ℕ} → r ≡ listFault v (t .p) (t .s) w → r ≡ firstOf (drop 5 (wordFaults (unpack w)))

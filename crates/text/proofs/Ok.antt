@@ -11,7 +11,8 @@ use borrow.Author.Tests.{lt-ltb, le-ltb}
 use Rattle.ground.proofs.Choice.{choose-true, choose-false}
 use Rattle.description.specs.Description.{Lists}
 use Rattle.words.specs.Words.{ascii, digits, decimal, filled}
-use Rattle.lines.specs.Lines.{multiplexLine, pipeLines, tailLine, accepted}
+use Rattle.pipe_lines.specs.Lines.{pipeLines, tailLine}
+use Rattle.lines.specs.Lines.{multiplexLine, accepted}
 use Rattle.text.specs.Listing.{refused}
 use Rattle.text.specs.Answers.{SaysOk}
 

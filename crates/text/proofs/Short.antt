@@ -24,7 +24,8 @@ use Rattle.description.proofs.Bounds.{own-bounds}
 use Rattle.description.proofs.Tests.{lists-clear}
 use Rattle.words.proofs.Decimal.{digits-most}
 use Rattle.words.proofs.Room.{filled-room}
-use Rattle.lines.specs.Lines.{multiplexLine, pipeLine, pipeLines, tailLine, accepted}
+use Rattle.pipe_lines.specs.Lines.{pipeLine, pipeLines, tailLine}
+use Rattle.lines.specs.Lines.{multiplexLine, accepted}
 use Rattle.lines.proofs.Lined.{accepted-length}
 use Rattle.text.specs.Listing.{refused, listing}
 

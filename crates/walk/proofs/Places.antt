@@ -12,13 +12,10 @@ use Rattle.views.specs.Rows.{rowFrom, rowAt}
 use Rattle.sheets.specs.Owned.{ownedAt, tailOwnedAt}
 use Rattle.sheets.specs.declared.owned.Share.{Share}
 use Rattle.sheets.proofs.Owning.{owned-small, tail-small}
-use Rattle.walk.specs.Steps.{onward, withTail, foundOf}
+use Rattle.steps.specs.Steps.{onward, withTail}
+use Rattle.walk.specs.Steps.{foundOf}
 use Rattle.walk.specs.Tour.{pOf, sOf, dOf, tourOf}
 use Rattle.walk.specs.declared.Toured.{Toured}
-
--- the bits of as many records as are counted
-pub records-small : {n k : ℕ} → n < 2 ^ 16 → k < 2 ^ 32 → n * k ≤ 281470681677825
-records-small {n} {k} x y = let u : n ≤ 65535 = omega (arith, x) in let v : k ≤ 4294967295 = omega (arith, y) in mul-le-mul u v
 
 onward-small : (a n k : ℕ) → a + n * k < 4294967296 → onward a n k ≡ a + n * k
 unfolding onward

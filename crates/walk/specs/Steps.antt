@@ -1,16 +1,8 @@
--- The steps of the walk, as its code takes them; specs/Tour.antt says what they come to.
+-- What the walk hands out, as its code makes it; specs/Tour.antt says what it comes to.
 -- Assumes nothing.
-use Prim.Native.Nat.{ℕ, _+_, _*_, _%_}
+use Prim.Native.Nat.{ℕ, _%_}
 use Rattle.sheets.specs.declared.owned.Share.{Share}
 use Rattle.walk.specs.declared.Toured.{Toured}
-
--- the place behind n records of so many bits, as a number of 32 bits
-unfoldable pub onward : ℕ → ℕ → ℕ → ℕ
-onward at n width = (at + n * width) % 4294967296
-
--- what all pipes own: streams of the payload pipes and of the tail pipe, which owns no section (clause 4.10.8)
-unfoldable pub withTail : Share → ℕ → Share
-withTail own tail = record { s = (own .s + tail) % 65536; d = own .d }
 
 unfoldable pub foundOf : ℕ → ℕ → Share → ℕ → Toured
 foundOf version p all end = record { version = version; p = p % 256; s = all .s; d = all .d; end = end }

@@ -3,8 +3,8 @@ mod plain;
 mod reader;
 
 use crate::plain::found;
-use crate::plain::with_tail;
 use crate::reader::Reader;
+use steps::with_tail;
 use views::PIPE;
 use views::SECTION;
 use views::STREAM;

@@ -4,7 +4,7 @@ ghost use mathlib.Core.Path.{_≡_};
 ghost use Prim.Native.Nat.{_%_};
 ghost use Rattle.bits.specs.Places.{fieldAt};
 ghost use Rattle.sheets.specs.Owned.{ownedAt, tailOwnedAt};
-ghost use Rattle.walk.specs.Steps.{onward};
+ghost use Rattle.steps.specs.Steps.{onward};
 
 pub struct Reader<'a> {
     pub word: &'a [u8],
@@ -23,7 +23,7 @@ impl<'a> Reader<'a> {
     pub fn bits(self, n: usize) -> u32
         ensures { λ x. ⌜ x ≡ fieldAt (now (self .entry .word)) (self .entry .at) n ⌝ }
     {
-        crate::plain::bits_at(self.word, self.at, n)
+        steps::bits_at(self.word, self.at, n)
     }
 
     // The reader behind n records of so many bits.
@@ -32,7 +32,7 @@ impl<'a> Reader<'a> {
     {
         Reader {
             word: self.word,
-            at: crate::plain::onward(self.at, n, width),
+            at: steps::onward(self.at, n, width),
         }
     }
 
@@ -40,14 +40,14 @@ impl<'a> Reader<'a> {
     pub fn pipes(self) -> u16
         ensures { λ x. ⌜ x ≡ fieldAt (now (self .entry .word)) (self .entry .at) 4 ⌝ }
     {
-        crate::plain::pipes_at(self.word, self.at)
+        steps::pipes_at(self.word, self.at)
     }
 
     // What the p payload pipes at the reader's place own; p counts in 8 bits.
     pub fn owned(self, p: u16) -> Share
         ensures { λ x. ⌜ x ≡ ownedAt (now (self .entry .word)) (self .entry .at) (p % 256) ⌝ }
     {
-        crate::plain::owned_by(self.word, self.at, p)
+        steps::owned_by(self.word, self.at, p)
     }
 
     // The streams of the tail pipe at the reader's place.

@@ -4,7 +4,7 @@ use native.Mathlib.Omega.{arith}
 use lib.ListN.{length}
 use Rattle.ground.proofs.Refusing.{refusal-leaves, acceptance-leaves}
 use Rattle.encapsulation.specs.Writing.{written}
-use Rattle.encapsulation.proofs.Faults.{Writable, writable}
+use Rattle.write_faults.proofs.Faults.{Writable, writable}
 use Rattle.encapsulation.proofs.Laid.{lent-most, laid}
 use borrow.Author.Needs.{needs}
 use Rattle.encapsulation.proofs.write.Statement.{statement}
@@ -13,8 +13,8 @@ use Rattle.encapsulation.proofs.write.Reads as reads
 use Rattle.encapsulation.proofs.write.Lts as lts
 use Rattle.encapsulation.proofs.transport.carry.Reads as carry-reads
 use Rattle.encapsulation.proofs.packet.fill.Reads as fill-reads
-use Rattle.encapsulation.proofs.packet.refusal.Reads as refusal-reads
-use Rattle.infoword.proofs.close.Reads as close-reads
+use Rattle.write_faults.proofs.refusal.Reads as refusal-reads
+use Rattle.ending.proofs.close.Reads as close-reads
 
 refusal-requires : tie.Need-refusal-requires
 refusal-requires c κs = search needs

@@ -10,9 +10,9 @@ use Rattle.faults.proofs.list_fault.Statement.{statement}
 use Rattle.faults.proofs.list_fault.Tie as tie
 use Rattle.faults.proofs.list_fault.Reads as reads
 use Rattle.faults.proofs.list_fault.Lts as lts
-use Rattle.faults.proofs.any_taps_wrong.Reads as any-taps-wrong-reads
+use Rattle.taps.proofs.any_taps_wrong.Reads as any-taps-wrong-reads
 use Rattle.faults.proofs.any_width_wrong.Reads as any-width-wrong-reads
-use Rattle.faults.proofs.id_twice.Reads as id-twice-reads
+use Rattle.ids.proofs.id_twice.Reads as id-twice-reads
 
 any-width-wrong-requires : tie.Need-any-width-wrong-requires
 any-width-wrong-requires c κs = search needs

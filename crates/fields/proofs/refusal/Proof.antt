@@ -1,10 +1,10 @@
 -- `fields::refusal` meets its contract. Assumes nothing.
-use Prim.Native.Nat.{_≤_}
+use Prim.Native.Nat.{ℕ, _≤_}
 use mathlib.Core.Path.{_≡_, sym, ap, _∙_}
 use native.Mathlib.Omega.{arith}
 use lib.Dec.{eqb}
 use lib.ListN.{length}
-use Rattle.ground.specs.Choice.{both}
+use Rattle.ground.specs.Choice.{choose, both}
 use Rattle.infoword.specs.Suffix.{kindOf, crcFieldOf, spareOf, addressOf, coveredOf, headerCrc}
 use Rattle.fields.specs.Report.{noHeaderAt}
 use Rattle.fields.proofs.Faults.{read-1, read-2, read-5, read-16, read-15, read-18, read-0, address-looked-at}
@@ -88,7 +88,9 @@ found : (c : tie.After-no-header-at) → let w = c .before .before .before .befo
     c .no-header-at .result ≡ both (eqb (kindOf w) 3) (noHeaderAt (addressOf w))
 found c =
     let w = c .before .before .before .before .before .before .before .before .before .before .before .before .before .args .word .now in
-    c .no-header-at .ensures ∙ ap noHeaderAt (c .before .address-of .ensures .0) ∙ address-looked-at (eqb (kindOf w) 3) (addressOf w)
+    let e : c .before .address-of .result ≡ choose (eqb (c .before .before .before .field4 .result) 3) (addressOf w) 0 = c .before .address-of .ensures .0 in
+    let k : c .before .before .before .field4 .result ≡ kindOf w = c .before .before .before .field4 .ensures in
+    c .no-header-at .ensures ∙ ap noHeaderAt (e ∙ ap (λ (x : ℕ). choose (eqb x 3) (addressOf w) 0) k) ∙ address-looked-at (eqb (kindOf w) 3) (addressOf w)
 
 returns-6 : tie.Need-returns-6
 returns-6 c =

@@ -12,8 +12,8 @@ use Rattle.ground.proofs.Choice.{choose-true, both-false}
 use Rattle.infoword.specs.Suffix.{kindOf, addressOf}
 use Rattle.fields.specs.Report.{headerOf}
 use Rattle.fields.specs.declared.Header.{Header}
-use Rattle.payload.specs.Answers.{headerWith, headerBytes}
-use Rattle.payload.proofs.Answers.{header-put}
+use Rattle.header_bytes.specs.Bytes.{headerWith, headerBytes}
+use Rattle.header_bytes.proofs.Stores.{header-put}
 use Rattle.ip.specs.Read.{reading}
 use Rattle.ip.specs.Memory.{openIn}
 use Rattle.ip_look.specs.Looking.{gotOf}
@@ -25,10 +25,10 @@ use Rattle.ip_read.proofs.read.Statement.{statement}
 use Rattle.ip_read.proofs.read.Tie as tie
 use Rattle.ip_read.proofs.read.Reads as reads
 use Rattle.ip_read.proofs.read.Lts as lts
-use Rattle.fields.proofs.header_of.Reads as header-of-reads
+use Rattle.header.proofs.header_of.Reads as header-of-reads
 use Rattle.ip_look.proofs.refusal.Reads as refusal-reads
 use Rattle.ip_read.proofs.taking.take_in.Reads as take-in-reads
-use Rattle.payload.proofs.put_header.Reads as put-header-reads
+use Rattle.header_bytes.proofs.put_header.Reads as put-header-reads
 
 refusal-requires : tie.Need-refusal-requires
 refusal-requires c κs = search needs

@@ -12,8 +12,8 @@ use Rattle.ip_write.proofs.close.Statement.{statement}
 use Rattle.ip_write.proofs.close.Tie as tie
 use Rattle.ip_write.proofs.close.Reads as reads
 use Rattle.ip_write.proofs.close.Lts as lts
-use Rattle.infoword.proofs.close.Reads as close-reads
-use Rattle.infoword.proofs.put_parts.Reads as put-parts-reads
+use Rattle.ending.proofs.close.Reads as close-reads
+use Rattle.parts_put.proofs.put_parts.Reads as put-parts-reads
 
 put-parts-requires : tie.Need-put-parts-requires
 put-parts-requires c κs = search needs

@@ -8,8 +8,8 @@ use Rattle.lines.proofs.lines.Reads as reads
 use Rattle.lines.proofs.lines.Lts as lts
 use Rattle.views.proofs.of_sheet.Reads as of-sheet-reads
 use Rattle.records.proofs.multiplex_at.Reads as multiplex-at-reads
-use Rattle.lines.proofs.pipes.Reads as pipes-reads
-use Rattle.lines.proofs.tail.Reads as tail-reads
+use Rattle.pipe_lines.proofs.pipes.Reads as pipes-reads
+use Rattle.pipe_lines.proofs.tail.Reads as tail-reads
 use Rattle.words.proofs.line.Reads as line-reads
 
 of-sheet-requires : tie.Need-of-sheet-requires

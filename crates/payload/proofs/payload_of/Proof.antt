@@ -12,7 +12,7 @@ use Rattle.payload.proofs.payload_of.Tie as tie
 use Rattle.payload.proofs.payload_of.Reads as reads
 use Rattle.payload.proofs.payload_of.Lts as lts
 use Rattle.bits.proofs.field.Reads as field-reads
-use Rattle.fields.proofs.bytes.Reads as bytes-reads
+use Rattle.infoword.proofs.bytes.Reads as bytes-reads
 use Rattle.fields.proofs.refusal.Reads as refusal-reads
 
 refusal-requires : tie.Need-refusal-requires

@@ -9,7 +9,7 @@ use Rattle.payload.proofs.read.Statement.{statement}
 use Rattle.payload.proofs.read.Tie as tie
 use Rattle.payload.proofs.read.Reads as reads
 use Rattle.payload.proofs.read.Lts as lts
-use Rattle.fields.proofs.header_of.Reads as header-of-reads
+use Rattle.header.proofs.header_of.Reads as header-of-reads
 use Rattle.fields.proofs.refusal.Reads as refusal-reads
 
 -- what is lent is bytes

@@ -3,14 +3,16 @@ use Prim.Native.Nat.{ℕ}
 use mathlib.Core.Path.{sym, ap, _∙_}
 use mathlib.Core.List.{List}
 use native.Mathlib.Omega.{arith}
-use Rattle.payload.specs.Answers.{told, headerBytes}
-use Rattle.payload.proofs.Answers.{refusal-told, header-told, into-room, into-refused, into-done, header-put}
+use Rattle.header_bytes.specs.Bytes.{headerBytes}
+use Rattle.header_bytes.proofs.Stores.{header-put}
+use Rattle.payload.specs.Answers.{told}
+use Rattle.payload.proofs.Answers.{refusal-told, header-told, into-room, into-refused, into-done}
 use borrow.Author.Needs.{needs}
 use Rattle.payload.proofs.read_into.Statement.{statement}
 use Rattle.payload.proofs.read_into.Tie as tie
 use Rattle.payload.proofs.read_into.Reads as reads
 use Rattle.payload.proofs.read_into.Lts as lts
-use Rattle.payload.proofs.put_header.Reads as put-header-reads
+use Rattle.header_bytes.proofs.put_header.Reads as put-header-reads
 use Rattle.payload.proofs.read.Reads as read-reads
 
 returns : tie.Need-returns

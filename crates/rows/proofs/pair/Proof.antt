@@ -6,7 +6,7 @@ use Rattle.rows.proofs.pair.Statement.{statement}
 use Rattle.rows.proofs.pair.Tie as tie
 use Rattle.rows.proofs.pair.Reads as reads
 use Rattle.rows.proofs.pair.Lts as lts
-use Rattle.rows.proofs.reversed.Reads as reversed-reads
+use Rattle.reversal.proofs.reversed.Reads as reversed-reads
 use Rattle.rows.proofs.wide.Reads as wide-reads
 
 add-reversed : tie.Need-add-reversed

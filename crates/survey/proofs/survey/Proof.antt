@@ -1,6 +1,6 @@
 -- `survey::survey` meets its contract. Assumes nothing.
 use Prim.Native.Nat.{ℕ, _≤_}
-use mathlib.Core.Path.{_≡_, sym, ap, _∙_}
+use mathlib.Core.Path.{_≡_, refl, sym, ap, _∙_}
 use mathlib.Core.Bool.{not}
 use mathlib.Core.List.{List}
 use native.Mathlib.Omega.{arith}
@@ -62,7 +62,7 @@ passed-1 o = none-yet (word o) (long o)
 
 -- 2: a spare bit is set
 spare : (c : tie.After-any-set) → spareFault (bits (from-2 c)) ≡ c .any-set .result
-spare c = let o = from-2 c in spare-is (word o) (long o) (c .any-set .ensures)
+spare c = let o = from-2 c in spare-is (word o) (long o) (c .any-set .ensures) refl refl
 
 -- passed: 1 2
 passed-2 : (c : tie.Else2) → Passed 1 (word (from-2 (c .before)))
@@ -105,7 +105,7 @@ padding : (c : tie.After-any-set2) → paddingFault (bits (from-tour (tour-8 c))
 padding c =
     let t = tour-8 c in
     let o = from-tour t in
-    padding-is (word o) (long o) (t .tour .result) (t .tour .ensures) (fits (c .before)) (c .any-set2 .ensures)
+    padding-is (word o) (long o) (t .tour .result) (t .tour .ensures) (fits (c .before)) (c .any-set2 .ensures) refl refl
 
 -- passed: 1 2 5 6 7 8
 passed-8 : (c : tie.Else6) → Passed 5 (word (from-tour (tour-8 (c .before))))

@@ -42,7 +42,8 @@ use Rattle.sheets.specs.Owned.{ownedAt, tailOwnedAt}
 use Rattle.sheets.specs.declared.owned.Share.{Share}
 use Rattle.sheets.proofs.owned.Share as S
 use Rattle.sheets.proofs.owned.Share.Laws as S′
-use Rattle.walk.specs.Steps.{onward, withTail, foundOf}
+use Rattle.steps.specs.Steps.{onward, withTail}
+use Rattle.walk.specs.Steps.{foundOf}
 use Rattle.walk.specs.declared.reader.Reader.{Reader}
 use Rattle.walk.proofs.reader.Reader as T
 use Rattle.walk.proofs.reader.Reader.Laws as T′
@@ -75,10 +76,10 @@ use Rattle.walk.proofs.reader.Reader.tail as f-tail
 use Rattle.walk.proofs.reader.Reader.tail.Symbol as f-tail-def
 use Rattle.walk.proofs.reader.Reader.tail.Symbol.{name as #walk·reader·Reader·tail}
 use Rattle.walk.proofs.reader.Reader.tail.Met as f-tail-thm
-use Rattle.walk.proofs.plain.with_tail as f-with-tail
-use Rattle.walk.proofs.plain.with_tail.Symbol as f-with-tail-def
-use Rattle.walk.proofs.plain.with_tail.Symbol.{name as #walk·plain·with-tail}
-use Rattle.walk.proofs.plain.with_tail.Met as f-with-tail-thm
+use Rattle.steps.proofs.with_tail as f-with-tail
+use Rattle.steps.proofs.with_tail.Symbol as f-with-tail-def
+use Rattle.steps.proofs.with_tail.Symbol.{name as #steps·with-tail}
+use Rattle.steps.proofs.with_tail.Met as f-with-tail-thm
 use Rattle.walk.proofs.plain.found as f-found
 use Rattle.walk.proofs.plain.found.Symbol as f-found-def
 use Rattle.walk.proofs.plain.found.Symbol.{name as #walk·plain·found}
@@ -129,7 +130,7 @@ module _ {M : Type 1} (𝓤 : URA M) (H : Heap 𝓤) (A : Atoms 𝓤) (mem : Mem
     pipes : Triple 𝓤 (C #walk·reader·Reader·pipes) Pipes
     owned : Triple 𝓤 (C #walk·reader·Reader·owned) Owned
     tail : Triple 𝓤 (C #walk·reader·Reader·tail) Tail
-    with-tail : Triple 𝓤 (C #walk·plain·with-tail) With-tail
+    with-tail : Triple 𝓤 (C #steps·with-tail) With-tail
     found : Triple 𝓤 (C #walk·plain·found) Found
 
   module _ (W : Given 𝓤 H A) (κ : Lft) (q : Part) (s : RefT (List ℕ)) where
@@ -260,7 +261,7 @@ module _ {M : Type 1} (𝓤 : URA M) (H : Heap 𝓤) (A : Atoms 𝓤) (mem : Mem
 
         joins : K → (o : Share) (n : ℕ) → Is S.the-row o (S′.lowered o ∷ []) → n < 2 ^ 16 → Opds K W (raw (With-tail .pre (to-with-tail o n)) ∷ (token κ q ⊛ ‵ (Word κ s)) ∷ Γ) E xs (S′.lowered o ∷ vint w16 n ∷ [])
             → (Is S.the-row (withTail o n) (S′.lowered (withTail o n) ∷ []) → Seq K W (token κ q ∷ ‵ (Word κ s) ∷ Γ) (lands C Λ E d (S′.lowered (withTail o n)) rest z))
-            → Seq K W (token κ q ∷ ‵ (Word κ s) ∷ Γ) (runs C Λ E (seq (call #walk·plain·with-tail xs d) rest) z)
+            → Seq K W (token κ q ∷ ‵ (Word κ s) ∷ Γ) (runs C Λ E (seq (call #steps·with-tail xs d) rest) z)
         joins t o n o-is n-fits os next =
             told t κ q s fm With-tail (known .with-tail) (to-with-tail o n) (owns (S.the-row ∷ u16 ∷ []) (o, (n, tt)) (S′.lowered o ∷ [], (vint w16 n ∷ [], tt))) (tailed o n o-is n-fits) (id⊢ 𝓤 _)
             S.the-row S′.lowered share-tells (withTail o n) (ensured 𝓤 H A f-with-tail.ended (f-with-tail.clauses 𝓤 H A mem run) tt (o, (n, tt)) tt)
@@ -334,6 +335,6 @@ tour-spec 𝓤 H 𝓜 𝓖 𝓡 =
       pipes = cited 𝓤 H (Pipes 𝓤 H (𝓖 .A) (𝓜 .mem) (𝓡 .run)) 𝓜 𝓡 code.env #walk·reader·Reader·pipes f-pipes-def.routine code.calls-walk·reader·Reader·pipes (f-pipes-thm.met 𝓤 H 𝓜 𝓖 𝓡);
       owned = cited 𝓤 H (Owned 𝓤 H (𝓖 .A) (𝓜 .mem) (𝓡 .run)) 𝓜 𝓡 code.env #walk·reader·Reader·owned f-owned-def.routine code.calls-walk·reader·Reader·owned (f-owned-thm.met 𝓤 H 𝓜 𝓖 𝓡);
       tail = cited 𝓤 H (Tail 𝓤 H (𝓖 .A) (𝓜 .mem) (𝓡 .run)) 𝓜 𝓡 code.env #walk·reader·Reader·tail f-tail-def.routine code.calls-walk·reader·Reader·tail (f-tail-thm.met 𝓤 H 𝓜 𝓖 𝓡);
-      with-tail = cited 𝓤 H (With-tail 𝓤 H (𝓖 .A) (𝓜 .mem) (𝓡 .run)) 𝓜 𝓡 code.env #walk·plain·with-tail f-with-tail-def.routine code.calls-walk·plain·with-tail (f-with-tail-thm.met 𝓤 H 𝓜 𝓖 𝓡);
+      with-tail = cited 𝓤 H (With-tail 𝓤 H (𝓖 .A) (𝓜 .mem) (𝓡 .run)) 𝓜 𝓡 code.env #steps·with-tail f-with-tail-def.routine code.calls-steps·with-tail (f-with-tail-thm.met 𝓤 H 𝓜 𝓖 𝓡);
       found = cited 𝓤 H (Found 𝓤 H (𝓖 .A) (𝓜 .mem) (𝓡 .run)) 𝓜 𝓡 code.env #walk·plain·found f-found-def.routine code.calls-walk·plain·found (f-found-thm.met 𝓤 H 𝓜 𝓖 𝓡);
     })

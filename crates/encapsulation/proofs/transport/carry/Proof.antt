@@ -11,7 +11,7 @@ use Rattle.encapsulation.proofs.transport.carry.Tie as tie
 use Rattle.encapsulation.proofs.transport.carry.Reads as reads
 use Rattle.encapsulation.proofs.transport.carry.Lts as lts
 use Rattle.encapsulation.proofs.transport.fill_up.Reads as fill-up-reads
-use Rattle.infoword.proofs.put_parts.Reads as put-parts-reads
+use Rattle.parts_put.proofs.put_parts.Reads as put-parts-reads
 
 returns : tie.Need-returns
 unfolding carried

@@ -103,7 +103,7 @@ returns-3 c =
     let n = c .before in
     let l = n .before in
     let s = l .before .before in
-    look-end (s .args .payload .now) (s .args .from) (l .loop .at) (l .loop .inv) (c .stray-from2 .result) (omega (arith, n .loop-test, s .pre)) (c .stray-from2 .ensures)
+    look-end (s .args .payload .now) (s .args .from) (l .loop .at) (l .loop .inv) (c .stray-from2 .result) (omega (arith, n .loop-test, s .pre)) (c .stray-from2 .ensures) refl
 
 pub heads-refused-spec : {M : Type 1} → statement M
 heads-refused-spec =

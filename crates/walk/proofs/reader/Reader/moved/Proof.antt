@@ -33,15 +33,15 @@ use denote.Triple.Table.{entered, cited}
 use denote.Triple.Walked.{says, Stays, stay-none, walkOf, goes-none, Walks, ends-at, walked, walk-meets}
 use denote.Exit.{yes}
 use denote.Triple.Clauses.{ensured, lasts}
-use Rattle.walk.specs.Steps.{onward}
+use Rattle.steps.specs.Steps.{onward}
 use Rattle.walk.specs.declared.reader.Reader.{Reader}
 use Rattle.walk.proofs.reader.Reader as T
 use Rattle.walk.proofs.reader.Reader.Laws as T′
 use Rattle.walk.proofs.Walking.{B, reader, Word, Own, token, calls-is, here, stored, leaves, held, lent, asks}
-use Rattle.walk.proofs.plain.onward as callee
-use Rattle.walk.proofs.plain.onward.Symbol as callee-def
-use Rattle.walk.proofs.plain.onward.Symbol.{name as #walk·plain·onward}
-use Rattle.walk.proofs.plain.onward.Met as callee-thm
+use Rattle.steps.proofs.onward as callee
+use Rattle.steps.proofs.onward.Symbol as callee-def
+use Rattle.steps.proofs.onward.Symbol.{name as #steps·onward}
+use Rattle.steps.proofs.onward.Met as callee-thm
 use Rattle.walk.proofs.reader.Reader.moved.Key.{name as #walk·reader·Reader·moved}
 use Rattle.walk.proofs.reader.Reader.moved as moved
 use Rattle.walk.proofs.reader.Reader.moved.Statement as stated
@@ -83,7 +83,7 @@ module _ {M : Type 1} (𝓤 : URA M) (H : Heap 𝓤) (A : Atoms 𝓤) (W : Given
       -- [what the reader made owns; what the word owns; what the reader passed owns; the numbers' facts]
       move ! (2 ∷ 3 ∷ []) $ fjoin ! $ frame ! $ move ! (1 ∷ []) $ drop ! $ done !
 
-  module _ (C : Calls 𝓤 H) (Λ : Loops 𝓤 H) (fm : FmC 𝓤 H (W .laws) C) (known : Triple 𝓤 (C #walk·plain·onward) (Callee 𝓤 H A mem run)) where
+  module _ (C : Calls 𝓤 H) (Λ : Loops 𝓤 H) (fm : FmC 𝓤 H (W .laws) C) (known : Triple 𝓤 (C #steps·onward) (Callee 𝓤 H A mem run)) where
     walk : Holds (hasTy (T′.mir (named 0)) (T′.lowered d)) × WT (T′.lowered d) → ent 𝓤 (onEntry 𝓤 H A moved.signature (κ, tt) (q, tt) (d, (n, (k, tt))) at) (WpFn 𝓤 H C Λ code.function (T′.lowered d ∷ vint w16 n ∷ vint w32 k ∷ []) Post)
     walk wt =
         qed W (raw (onEntry 𝓤 H A moved.signature (κ, tt) (q, tt) (d, (n, (k, tt))) at) ∷ []) ∵ enter ! C Λ code.function (T′.lowered d ∷ vint w16 n ∷ vint w32 k ∷ []) _ $
@@ -102,13 +102,13 @@ module _ {M : Type 1} (𝓤 : URA M) (H : Heap 𝓤) (A : Atoms 𝓤) (W : Given
         returns ! (look ! 12 refl) $ leaves ! 12 refl refl $ leaves ! 10 refl refl $ leaves ! 8 refl refl $ leaves ! 6 refl refl $ leaves ! 4 refl refl $ leaves ! 2 refl refl $ leaves ! 0 refl refl $ free0 ! $ by ! (exits (is .1))))))))))
 
 module _ {M : Type 1} (𝓤 : URA M) (H : Heap 𝓤) (A : Atoms 𝓤) (W : Given 𝓤 H A) (mem : Memory → SProp 𝓤) (run : Routine → Fun 𝓤) where
-  moved-walks : (C : Calls 𝓤 H) (Λ : Loops 𝓤 H) → FmC 𝓤 H (W .laws) C → Triple 𝓤 (C #walk·plain·onward) (Callee 𝓤 H A mem run)
+  moved-walks : (C : Calls 𝓤 H) (Λ : Loops 𝓤 H) → FmC 𝓤 H (W .laws) C → Triple 𝓤 (C #steps·onward) (Callee 𝓤 H A mem run)
       → Walks 𝓤 H A moved.ended stayed (WpFn 𝓤 H C Λ code.function) (moved.clauses 𝓤 H A mem run)
   moved-walks C Λ fm known = walked 𝓤 H A moved.ended stayed (moved.clauses 𝓤 H A mem run) (WpFn 𝓤 H C Λ code.function) (λ κs. (LL.vals (T.the-type (namedLft 1 0 tt κs)) (T′.the-laws (namedLft 1 0 tt κs)), (uint-vals w16, (uint-vals w32, tt)))) (λ κs. (LL.tells (T.the-type (namedLft 1 0 tt κs)) (T′.the-laws (namedLft 1 0 tt κs)), (uint-tells w16, (uint-tells w32, tt))))
       (λ κs qs bounds a g are. via 𝓤 _ (fst∗ 𝓤 _ (emp 𝓤)) (walk 𝓤 H A W mem run (κs .0) (qs .0) (a .0) (a .1 .0) (a .1 .1 .0) (are .1 .0 .1) (are .1 .1 .0 .1) C Λ fm known (LL.lawful (T.the-type (namedLft 1 0 tt κs)) (T′.the-laws (namedLft 1 0 tt κs)) 𝓤 H A W .typed (a .0) _ (are .0) .0)))
 
 moved-meets : {M : Type 1} (𝓤 : URA M) (H : Heap 𝓤) (A : Atoms 𝓤) (W : Given 𝓤 H A) (mem : Memory → SProp 𝓤) (run : Routine → Fun 𝓤) (𝓣 : Tables 𝓤 H)
-    → Triple 𝓤 (𝓣 .C #walk·plain·onward) (Callee 𝓤 H A mem run)
+    → Triple 𝓤 (𝓣 .C #steps·onward) (Callee 𝓤 H A mem run)
     → Meets 𝓤 H A moved.signature (WpFn 𝓤 H (𝓣 .C) (𝓣 .Λ) code.function) (moved.spec 𝓤 H A mem run)
 moved-meets 𝓤 H A W mem run 𝓣 known = walk-meets 𝓤 H A moved.ended stayed W (goes-none 𝓤 H A W 1 B yes (λ κs x f. refl), (goes-none 𝓤 H A W 1 (λ _. u16) yes (λ κs x f. refl), (goes-none 𝓤 H A W 1 (λ _. u32) yes (λ κs x f. refl), tt))) (moved.clauses 𝓤 H A mem run) (WpFn 𝓤 H (𝓣 .C) (𝓣 .Λ) code.function) (WpFn-mono 𝓤 H (W .laws) 𝓣 code.function)
     (moved-walks 𝓤 H A W mem run (𝓣 .C) (𝓣 .Λ) (fmOf 𝓤 H (W .laws) 𝓣) known)
@@ -119,4 +119,4 @@ moved-spec 𝓤 H 𝓜 𝓖 𝓡 =
     entered 𝓤 H (tripleOf 𝓤 H (𝓖 .A) moved.signature (moved.spec 𝓤 H (𝓖 .A) (𝓜 .mem) (𝓡 .run)))
     (tables 𝓤 H 𝓜 𝓡 code.env .C) (tables 𝓤 H 𝓜 𝓡 code.env .Λ) #walk·reader·Reader·moved code.function (code.unfolded 𝓤 H 𝓜 𝓡)
     (moved-meets 𝓤 H (𝓖 .A) (givenOf 𝓤 H 𝓜 𝓖) (𝓜 .mem) (𝓡 .run) (tablesOf 𝓤 H 𝓜 (tables 𝓤 H 𝓜 𝓡 code.env))
-    (cited 𝓤 H (Callee 𝓤 H (𝓖 .A) (𝓜 .mem) (𝓡 .run)) 𝓜 𝓡 code.env #walk·plain·onward callee-def.routine code.calls-walk·plain·onward (callee-thm.met 𝓤 H 𝓜 𝓖 𝓡)))
+    (cited 𝓤 H (Callee 𝓤 H (𝓖 .A) (𝓜 .mem) (𝓡 .run)) 𝓜 𝓡 code.env #steps·onward callee-def.routine code.calls-steps·onward (callee-thm.met 𝓤 H 𝓜 𝓖 𝓡)))

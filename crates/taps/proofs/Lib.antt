@@ -1,0 +1,2 @@
+pub mod Tapping
+pub mod Agree
