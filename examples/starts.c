@@ -6,10 +6,29 @@
 #include "say.h"
 #include "table.h"
 
-/* Finds the next preamble from a place on, and its form; n where there is none. */
-static size_t next_start(const uint8_t *bytes, size_t n, size_t from, uint8_t *form)
+/* The first byte of each form of the preamble. */
+struct firsts {
+    uint8_t upright, inverted;
+};
+
+static bool firsts_of(struct firsts *firsts)
+{
+    uint8_t upright[OPL_PREAMBLE_BYTES], inverted[OPL_PREAMBLE_BYTES];
+    bool ok = accepted(opl_preamble(0, upright, sizeof upright), "opl_preamble", "32 bytes") &&
+              accepted(opl_preamble(1, inverted, sizeof inverted), "opl_preamble", "32 bytes");
+    *firsts = ok ? (struct firsts){upright[0], inverted[0]} : (struct firsts){0};
+    return ok;
+}
+
+/*
+ * Finds the next preamble from a place on, and its form; n where there is none. The library is asked only where a first
+ * byte is, as a call at every byte would take longer than all else that is done with a recording.
+ */
+static size_t next_start(const struct firsts *firsts, const uint8_t *bytes, size_t n, size_t from, uint8_t *form)
 {
     for (size_t at = from; at + OPL_PREAMBLE_BYTES <= n; at++) {
+        if (bytes[at] != firsts->upright && bytes[at] != firsts->inverted)
+            continue;
         uint8_t refusal = opl_preamble_form(bytes + at, OPL_PREAMBLE_BYTES, form, 1);
         if (accepted(refusal, "opl_preamble_form", "32 bytes") && *form != OPL_NEITHER)
             return at;
@@ -18,10 +37,10 @@ static size_t next_start(const uint8_t *bytes, size_t n, size_t from, uint8_t *f
 }
 
 /* How many bytes a frame has: as many as there are from the first preamble to the next. */
-static size_t frame_length(const uint8_t *bytes, size_t n)
+static size_t frame_length(const struct firsts *firsts, const uint8_t *bytes, size_t n)
 {
     uint8_t form;
-    return next_start(bytes, n, 1, &form);
+    return next_start(firsts, bytes, n, 1, &form);
 }
 
 /* Says that a frame has to start where the next preamble, at another place or at none, is not. Returns false. */
@@ -35,7 +54,10 @@ static bool say_misplaced(size_t at, size_t start, size_t n)
 bool find_frames(const uint8_t *bytes, size_t n, struct recorded *recorded)
 {
     uint8_t form = OPL_NEITHER, before = OPL_NEITHER;
-    size_t frame_bytes = frame_length(bytes, n), at = next_start(bytes, n, 0, &form), i = 0;
+    struct firsts firsts;
+    if (!firsts_of(&firsts))
+        return false;
+    size_t frame_bytes = frame_length(&firsts, bytes, n), at = next_start(&firsts, bytes, n, 0, &form), i = 0;
     for (; i * frame_bytes < n; i++) {
         if (at != i * frame_bytes)
             return say_misplaced(at, i * frame_bytes, n);
@@ -44,7 +66,7 @@ bool find_frames(const uint8_t *bytes, size_t n, struct recorded *recorded)
         if (is_shown(i))
             printf("  byte %9zu  %s\n", at, form == OPL_UPRIGHT ? "upright" : "inverted");
         before = form;
-        at = next_start(bytes, n, at + 1, &form);
+        at = next_start(&firsts, bytes, n, at + 1, &form);
     }
     *recorded = (struct recorded){bytes, i, frame_bytes};
     if (frame_bytes < START_BYTES || frame_bytes % UNIT_BYTES != 0)
