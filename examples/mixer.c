@@ -18,10 +18,12 @@ static const uint16_t increments[] = {
 void unmix(const uint8_t *mixed, uint8_t *codeword, size_t n)
 {
     size_t increment = n == OPL_SIGNALLING_CODEWORD_BYTES ? SIGNALLING_INC : increments[n / UNIT_BYTES];
-    size_t place = 0;
+    size_t bits = 8 * n, place = 0;
     memset(codeword, 0, n);
-    for (size_t i = 0; i < 8 * n; i++) {
+    for (size_t i = 0; i < bits; i++) {
         codeword[place / 8] |= (mixed[i / 8] >> (7 - i % 8) & 1) << (7 - place % 8);
-        place = (place + increment) % (8 * n);
+        place += increment;
+        if (place >= bits) /* the rest without a division, of which there would be one for each bit */
+            place -= bits;
     }
 }
