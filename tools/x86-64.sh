@@ -1,7 +1,8 @@
 #!/bin/sh
 # The library is compiled for x86-64 Linux, and so is a C program that links it.
 #
-#   tools/x86-64.sh build PROGRAM FILE..    compile the files and link them with the library
+#   tools/x86-64.sh build PROGRAM FILE..    compile the files and link them with the library; each becomes
+#                                           PROGRAM-FILE.o, and such an object may stand for its file in another build
 #   tools/x86-64.sh run PROGRAM WORD..      run what was built
 #
 # On an x86-64 machine gcc builds it and the machine runs it. On an Arm machine the compiler, the C
@@ -25,19 +26,31 @@ find_toolchain() {
     done
 }
 
-# gcc looks for faults too, as it is what builds on an x86-64 machine
+# on an Arm machine gcc looks for faults too, beside the other compiler, as it is what builds on an x86-64 machine
 compile() { # FILE OBJECT
+    if [ "$machine" = x86_64 ]; then
+        # shellcheck disable=SC2086
+        gcc $cflags -c -o "$2" "$1"
+        return
+    fi
     # shellcheck disable=SC2086
-    gcc $cflags -S -o /dev/null "$1"
+    gcc $cflags -S -o /dev/null "$1" &
+    looking=$!
     # shellcheck disable=SC2086
     "$parts/bin/clang" --target=x86_64-linux-gnu $cflags -isystem "$(gcc -print-file-name=include)" \
         -isystem "/usr/include/$(gcc -print-multiarch)" -c -o "$2" "$1"
+    wait "$looking"
 }
 
 # objects and library are made one object first: rattle-link takes no flags such as -lopl
 link_objects() { # PROGRAM OBJECT..
     program=$1
     shift
+    if [ "$machine" = x86_64 ]; then
+        # shellcheck disable=SC2086
+        gcc $cflags -o "$program" "$@" $libs
+        return
+    fi
     # shellcheck disable=SC2086
     "$parts/bin/ld.lld" -m elf_x86_64 -r -o "$program.o" "$@" $libs
     said=$("$own/bin/rattle-link" --target x86_64-unknown-linux-gnu --toolchain "$parts" -o "$program" "$program.o" 2>&1) ||
@@ -48,15 +61,16 @@ build() { # PROGRAM FILE.., from the top of the repository or in full
     cd "$(dirname "$0")/.."
     program=$1
     shift
-    if [ "$machine" = x86_64 ]; then
-        # shellcheck disable=SC2086
-        exec gcc $cflags -o "$program" "$@" $libs
-    fi
-    find_toolchain
+    if [ "$machine" != x86_64 ]; then find_toolchain; fi
     for file in "$@"; do
         shift
-        object=$program-$(basename "$file").o
-        compile "$file" "$object"
+        case $file in
+        *.o) object=$file ;;
+        *)
+            object=$program-$(basename "$file").o
+            compile "$file" "$object"
+            ;;
+        esac
         set -- "$@" "$object"
     done
     link_objects "$program" "$@"

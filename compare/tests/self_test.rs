@@ -6,8 +6,8 @@ mod program;
 
 use compare::inputs::{codings, Coding};
 use compare::second::patterns::pattern;
-use head_end::{headend, sources};
-use program::{build, figure, file, made, run, x86_64};
+use head_end::{headend, headend_with};
+use program::{figure, run, x86_64};
 use std::path::{Path, PathBuf};
 use std::sync::OnceLock;
 
@@ -17,15 +17,7 @@ const PAIRS: usize = 8;
 /// The head-end with broken.c in place of sums.c.
 fn broken() -> &'static Path {
     static BUILT: OnceLock<PathBuf> = OnceLock::new();
-    BUILT.get_or_init(|| {
-        let program = made("broken");
-        let mut files = sources();
-        files.retain(|path| !path.ends_with("sums.c"));
-        assert_eq!(files.len() + 1, sources().len());
-        files.push(file("compare/broken.c"));
-        build(&program, &files, "c11");
-        program
-    })
+    BUILT.get_or_init(|| headend_with("broken", "sums.c", "compare/broken.c"))
 }
 
 /// The line of a coding under which all is well.

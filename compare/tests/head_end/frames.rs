@@ -2,8 +2,8 @@
 //! that the second implementation made, over damaged ones, and over a library with a fault.
 
 use super::multiplexer::{sent_pipe, Multiplexer, Word};
-use crate::head_end::{headend, sources};
-use crate::program::{build, file, made, run, x86_64};
+use crate::head_end::{headend, headend_with};
+use crate::program::{file, made, run, x86_64};
 use compare::inputs::{framed_pipe, plain, plain_pipe};
 use compare::rng::Rng;
 use compare::second::description::{Description, Pipe, Stream};
@@ -372,13 +372,11 @@ fn what_are_no_frames_is_refused() {
 fn broken() -> &'static Path {
     static BUILT: OnceLock<PathBuf> = OnceLock::new();
     BUILT.get_or_init(|| {
-        let program = made("broken_pipe");
-        let mut files = sources();
-        files.retain(|path| !path.ends_with("sender.c"));
-        assert_eq!(files.len() + 1, sources().len());
-        files.push(file("compare/tests/head_end/broken_pipe.c"));
-        build(&program, &files, "c11");
-        program
+        headend_with(
+            "broken_pipe",
+            "sender.c",
+            "compare/tests/head_end/broken_pipe.c",
+        )
     })
 }
 

@@ -4,8 +4,8 @@
 use super::ip_sent::{Run, Sent, Slots, ONE_SLOT, QUICK_SLOTS, STORY_SLOTS};
 use super::ip_story::story_ip;
 use super::{on_the_way, sheet, story};
-use crate::head_end::{headend, sources};
-use crate::program::{self, build, file, made, x86_64};
+use crate::head_end::{headend, headend_with};
+use crate::program::{self, file, x86_64};
 use compare::inputs::{ip_queue, plain_packet};
 use compare::rng::Rng;
 use compare::second::ip::{PACKET_HEADER_BYTES, PAYLOAD_BYTES};
@@ -279,13 +279,11 @@ fn a_file_that_is_not_there_is_refused() {
 fn broken() -> &'static Path {
     static BUILT: OnceLock<PathBuf> = OnceLock::new();
     BUILT.get_or_init(|| {
-        let program = made("broken_ip");
-        let mut files = sources();
-        files.retain(|path| !path.ends_with("ip_received.c"));
-        assert_eq!(files.len() + 1, sources().len());
-        files.push(file("compare/tests/head_end/broken_ip.c"));
-        build(&program, &files, "c11");
-        program
+        headend_with(
+            "broken_ip",
+            "ip_received.c",
+            "compare/tests/head_end/broken_ip.c",
+        )
     })
 }
 
