@@ -17,6 +17,7 @@ mod program;
 
 use compare::inputs::{plain, plain_pipe};
 use compare::rng::Rng;
+use compare::second::description::Description;
 use compare::second::signalling::{judged_sheet, sheet_of};
 use compare::stream::{pid_of, stream, MINUTE, NULL_PID, PACKET};
 use head_end::headend;
@@ -24,6 +25,10 @@ use program::{figure, file, made, run, x86_64};
 use std::ffi::OsString;
 use std::fs;
 use std::path::PathBuf;
+
+/// The pattern of the shortest codewords, and the capacity units of one: a frame of these is made soonest.
+const SHORTEST: u32 = 25;
+const SHORTEST_UNITS: u32 = 7;
 
 /// What a run is made of. Its files have its name.
 struct Run {
@@ -177,29 +182,43 @@ fn story() -> Vec<u8> {
     fs::read(file("examples/sheets/story.sheet")).expect("the sheet is there")
 }
 
-/// The same with the least multipliers, so that the greatest delays are 3, 1 and 3 frames. Its stream 2, the last of the
-/// first pipe, has two slots in a frame.
-fn quick_story() -> Vec<u8> {
+/// The same with the least multipliers, so that the greatest delays are 3, 1 and 3 frames, and with the first pipe's four
+/// slots under the pattern of the shortest codewords. Its stream 2, the last of that pipe, has two slots in a frame.
+fn quick_description() -> Description {
     let mut description = judged_sheet(&story()).expect("it is sound");
     for pipe in &mut description.pipes {
         pipe.fields.tap_diff_mult_int_1 = 0;
         pipe.fields.tap_diff_mult_fract_1_16 = 0;
     }
-    sheet_of(&description)
+    let first = &mut description.pipes[0].fields;
+    (first.punct_pat_id, first.pipe_width_cus) = (SHORTEST, 4 * SHORTEST_UNITS);
+    description
 }
 
-/// Under pattern 25 a codeword has seven capacity units, so that a frame has 18 slots.
+fn quick_story() -> Vec<u8> {
+    sheet_of(&quick_description())
+}
+
+/// Its last pipe alone, for what neither a transport stream nor other pipes are needed.
+fn last_of_quick_story() -> Vec<u8> {
+    let last = quick_description().pipes.pop().expect("it has pipes");
+    sheet_of(&plain(vec![last], None))
+}
+
+/// A frame has 18 slots.
 #[test]
-fn a_minute_of_a_stream_comes_back() {
+fn seconds_of_a_stream_come_back() {
+    let slots = 18;
+    let frames = 24;
     let run = Run {
-        name: "minute".to_string(),
-        sheet: sheet(25, 7 * 18),
-        stream: stream(&mut Rng::new(730), MINUTE),
-        frames: 139,
+        name: "seconds".to_string(),
+        sheet: sheet(SHORTEST, SHORTEST_UNITS * slots as u32),
+        stream: stream(&mut Rng::new(730), MINUTE / 6),
+        frames,
     };
-    let printed = holds(&run, 12, 18 * 139, 18 * 139);
-    assert!(printed.contains("accepted: 2494 of type 2 (packets), 8 of type 0 (dummies)\n"));
-    assert!(printed.contains("stream 12: 2494 words of type 2 with all 19946 packets of "));
+    let printed = holds(&run, 12, slots * frames, slots * frames);
+    assert!(printed.contains("accepted: 416 of type 2 (packets), 16 of type 0 (dummies)\n"));
+    assert!(printed.contains("stream 12: 416 words of type 2 with all 3324 packets of "));
 }
 
 /// A stream that ends in the first word, at its end, behind it, in the last word and at the end of that; and longer
@@ -207,14 +226,14 @@ fn a_minute_of_a_stream_comes_back() {
 #[test]
 fn a_stream_of_any_length_comes_back() {
     let mut rng = Rng::new(731);
-    for count in [1, 7, 8, 9, 63, 64, 65, 111, 112, 113, 200] {
+    for count in [1, 8, 9, 31, 32, 33, 79, 80, 81] {
         let run = Run {
             name: format!("{count}_packets"),
             sheet: quick_story(),
             stream: stream(&mut rng, count),
-            frames: 7,
+            frames: 5,
         };
-        holds(&run, 2, 14, 8);
+        holds(&run, 2, 10, 4);
     }
 }
 

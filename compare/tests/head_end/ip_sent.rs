@@ -1,7 +1,7 @@
 //! What a run of the head-end over IP packets comes to, and all that it says of them, worked out from the packets and
 //! the slots that they have.
 
-use super::{on_the_way, quick_story, several};
+use super::{last_of_quick_story, on_the_way, quick_story, several};
 use crate::program::{file, made};
 use compare::inputs::handed_out;
 use compare::rng::Rng;
@@ -39,7 +39,7 @@ pub const STORY_SLOTS: Slots = Slots {
     greatest_delay: 98,
 };
 
-/// Of the same sheet with short delays.
+/// Of the same sheet with short delays, and of its last pipe alone.
 pub const QUICK_SLOTS: Slots = Slots {
     delay: 3,
     greatest_delay: 3,
@@ -72,6 +72,15 @@ impl Run {
             ip,
             stream: Some(52),
             frames: None,
+        }
+    }
+
+    /// The same with nothing in the frames but the pipe of these packets.
+    pub fn alone(name: &str, ip: Vec<u8>) -> Run {
+        Run {
+            sheet: last_of_quick_story(),
+            stream: None,
+            ..Run::of(name, ip)
         }
     }
 

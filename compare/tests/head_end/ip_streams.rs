@@ -3,7 +3,7 @@
 
 use super::ip_sent::{Run, Sent, Slots, ONE_SLOT, QUICK_SLOTS, STORY_SLOTS};
 use super::ip_story::story_ip;
-use super::{on_the_way, sheet, story};
+use super::{on_the_way, sheet, story, SHORTEST, SHORTEST_UNITS};
 use crate::head_end::{headend, headend_with};
 use crate::program::{self, file, x86_64};
 use compare::inputs::{ip_queue, plain_packet};
@@ -74,19 +74,20 @@ fn the_demonstrations_packets_come_back() {
 #[test]
 fn packets_of_any_length_come_back() {
     let mut rng = Rng::new(741);
-    for count in [1, 2, 3, 5, 8, 13, 21, 34, 55] {
-        let run = Run::of(&format!("{count}_packets"), ip_queue(&mut rng, count));
+    for count in [1, 3, 8, 34] {
+        let run = Run::alone(&format!("{count}_packets"), ip_queue(&mut rng, count));
         holds(&run, QUICK_SLOTS);
     }
 }
 
-/// From one word, which is refused, to seven, of which two are lost and one is refused.
+/// One word, which is refused; the fewest and the most of which one is lost and one refused; and the fewest of which two
+/// are lost and one is refused.
 #[test]
 fn of_few_words_some_are_lost_too() {
-    for words in 1..=7 {
+    for words in [1, 2, 5, 6] {
         let packet = plain_packet(2, 0, 700, 0x55);
         let count = words * PAYLOAD_BYTES / (700 + PACKET_HEADER_BYTES);
-        let run = Run::of(&format!("{words}_words"), packet.repeat(count));
+        let run = Run::alone(&format!("{words}_words"), packet.repeat(count));
         let (_, sent) = holds(&run, QUICK_SLOTS);
         assert_eq!(sent.words.len(), words);
     }
@@ -95,7 +96,7 @@ fn of_few_words_some_are_lost_too() {
 /// The smallest packets, of which more are lost than are listed.
 #[test]
 fn of_many_lost_packets_some_are_listed() {
-    let run = Run::of("many", plain_packet(1, 0x80, 1, 0xFF).repeat(4_000));
+    let run = Run::alone("many", plain_packet(1, 0x80, 1, 0xFF).repeat(4_000));
     let (printed, _) = holds(&run, QUICK_SLOTS);
     assert!(
         printed.contains("; 4000 with the error bit set\n"),
@@ -107,7 +108,7 @@ fn of_many_lost_packets_some_are_listed() {
 /// Where packets fill a word to its last bytes: a header in the last two, or in none of them.
 #[test]
 fn headers_stand_where_they_fit() {
-    for left in 0..=5 {
+    for left in 0..=3 {
         let first = plain_packet(1, 0, (PAYLOAD_BYTES - PACKET_HEADER_BYTES - left) as u16, 1);
         let ip = [
             first,
@@ -115,7 +116,7 @@ fn headers_stand_where_they_fit() {
             plain_packet(1, 0, 4_095, 3),
         ]
         .concat();
-        holds(&Run::of(&format!("{left}_left"), ip), QUICK_SLOTS);
+        holds(&Run::alone(&format!("{left}_left"), ip), QUICK_SLOTS);
     }
 }
 
@@ -123,14 +124,14 @@ fn headers_stand_where_they_fit() {
 /// just one slot, and no transport stream beside it.
 #[test]
 fn what_does_not_fit_the_frames_waits() {
-    for frames in [5, 6, 13, 14, 17] {
+    for frames in [5, 13, 14, 17] {
         let mut run = Run::of(&format!("{frames}_frames"), story_ip());
         run.frames = Some(frames);
         let (_, come) = holds(&run, QUICK_SLOTS);
         assert_eq!(come.whole < 26, frames < 14);
     }
     let mut run = Run::of("one_slot", story_ip());
-    (run.sheet, run.stream) = (sheet(25, 7), None);
+    (run.sheet, run.stream) = (sheet(SHORTEST, SHORTEST_UNITS), None);
     let (_, sent) = holds(&run, ONE_SLOT);
     assert_eq!((sent.frames, sent.dummies), (16, 0));
 }
@@ -152,7 +153,7 @@ fn what_is_not_whole_is_on_the_way() {
 #[test]
 fn of_a_long_stream_the_first_words_are_shown() {
     let ip = ip_queue(&mut Rng::new(742), 400);
-    let (_, come) = holds(&Run::of("long", ip), QUICK_SLOTS);
+    let (_, come) = holds(&Run::alone("long", ip), QUICK_SLOTS);
     assert_eq!((come.frames, come.words.len()), (103, 150));
 }
 
@@ -175,7 +176,7 @@ fn what_takes_a_decoder_is_not_read() {
 #[test]
 fn without_a_stream_of_their_own_no_packet_is_sent() {
     let mut taken = Run::of("no_stream", story_ip());
-    taken.sheet = sheet(25, 7);
+    taken.sheet = sheet(SHORTEST, SHORTEST_UNITS);
     let mut none = Run::of("no_pipe", story_ip());
     none.sheet = fs::read(file("examples/sheets/empty.sheet")).expect("the sheet is there");
     let path = taken.path("ip");
@@ -243,7 +244,7 @@ fn what_is_no_queue_of_packets_is_refused() {
             length,
         ),
     ] {
-        let run = Run::of(name, ip);
+        let run = Run::alone(name, ip);
         let path = run.path("ip");
         let due = format!(
             "headend: {}: packet 3, at byte 132, {what}: {refusal}\n",
@@ -251,7 +252,7 @@ fn what_is_no_queue_of_packets_is_refused() {
         );
         assert_eq!(refused(&run), due);
     }
-    let run = Run::of("empty", Vec::new());
+    let run = Run::alone("empty", Vec::new());
     let path = run.path("ip");
     assert_eq!(
         refused(&run),
@@ -261,7 +262,7 @@ fn what_is_no_queue_of_packets_is_refused() {
 
 #[test]
 fn a_file_that_is_not_there_is_refused() {
-    let run = Run::of("missing", story_ip());
+    let run = Run::alone("missing", story_ip());
     let words = run.words();
     fs::remove_file(run.path("ip")).expect("it was put there");
     let output = x86_64("run", headend()).args(words).output();
@@ -290,7 +291,7 @@ fn broken() -> &'static Path {
 /// What stands in place of the library is no fault by itself.
 #[test]
 fn without_a_fault_all_is_well() {
-    let run = Run::of("no_fault", story_ip());
+    let run = Run::alone("no_fault", story_ip());
     let mut command = x86_64("run", broken());
     let output = command.args(run.words()).env("FAULT", "none").output();
     let output = output.expect("a shell starts");
@@ -301,7 +302,7 @@ fn without_a_fault_all_is_well() {
 /// In the first reading, that of all words.
 #[test]
 fn packets_that_come_back_as_others_are_noticed() {
-    let run = Run::of("fault_at_first", story_ip());
+    let run = Run::alone("fault_at_first", story_ip());
     let path = run.path("ip");
     let another = |packet: usize| {
         format!(
@@ -331,7 +332,7 @@ fn packets_that_come_back_as_others_are_noticed() {
 /// In the second reading, that with words lost and one refused.
 #[test]
 fn a_loss_that_is_not_heeded_is_noticed() {
-    let run = Run::of("fault_with_loss", story_ip());
+    let run = Run::alone("fault_with_loss", story_ip());
     for (fault, why) in [
         (
             "loss_unheeded",
