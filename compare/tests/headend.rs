@@ -207,18 +207,18 @@ fn last_of_quick_story() -> Vec<u8> {
 
 /// A frame has 18 slots.
 #[test]
-fn seconds_of_a_stream_come_back() {
+fn a_minute_of_a_stream_comes_back() {
     let slots = 18;
-    let frames = 24;
+    let frames = 139;
     let run = Run {
-        name: "seconds".to_string(),
+        name: "minute".to_string(),
         sheet: sheet(SHORTEST, SHORTEST_UNITS * slots as u32),
-        stream: stream(&mut Rng::new(730), MINUTE / 6),
+        stream: stream(&mut Rng::new(730), MINUTE),
         frames,
     };
     let printed = holds(&run, 12, slots * frames, slots * frames);
-    assert!(printed.contains("accepted: 416 of type 2 (packets), 16 of type 0 (dummies)\n"));
-    assert!(printed.contains("stream 12: 416 words of type 2 with all 3324 packets of "));
+    assert!(printed.contains("accepted: 2494 of type 2 (packets), 8 of type 0 (dummies)\n"));
+    assert!(printed.contains("stream 12: 2494 words of type 2 with all 19946 packets of "));
 }
 
 /// A stream that ends in the first word, at its end, behind it, in the last word and at the end of that; and longer
