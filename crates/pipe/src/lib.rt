@@ -11,8 +11,10 @@ ghost use Rattle.pipe.specs.Frame.{mixedFrame};
 ghost use Rattle.pipe.specs.Piping.{piping};
 ghost use Rattle.pipe.specs.Inside.{Takes};
 
-// The bytes of a capacity unit: 2,048 bits (clause 4.6).
+// A capacity unit: its bytes, 2,048 bits, and its interleaver units (clause 4.6).
 const CAPACITY_UNIT: usize = 256;
+
+const INTERLEAVER_UNITS: u8 = 4;
 
 // The codewords of a frame, each mixed, go into the ring from a place on.
 fn take(pattern: u32, slots: usize, codewords: &[u8], ring: &mut [u8], at: usize)
@@ -66,9 +68,9 @@ pub fn write(pipe: &[u8], frame: u32, codewords: &[u8], memory: &mut [u8], out: 
     disperser::disperse(
         Way {
             profile,
-            regrouping: bits::field(pipe, 25, 1) as u8,
+            regrouping: bits::field(pipe, 25, 1) as u8, // Regrouping_Flag (table 16)
             slots: slots as u16,
-            units: 4 * units,
+            units: INTERLEAVER_UNITS * units,
         },
         frame,
         memory,

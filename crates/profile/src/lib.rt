@@ -52,6 +52,7 @@ fn made(pipe: &[u8], n: u8) -> Profile
     ensures { λ r. ⌜ r ≡ profileOf (lentFields (now (pipe .entry))) (sectionsAt n (now (pipe .entry))) ⌝ }
 {
     let lens = tap_lengths::lengths(pipe, n);
+    // Disperser_Inv_Flag, Tap_Diff_Mult_Int_1 and Tap_Diff_Mult_Fract_1_16 (table 16)
     let inv = bits::field(pipe, 24, 1);
     let int = bits::field(pipe, 36, 4);
     let fract = bits::field(pipe, 40, 4);
