@@ -603,8 +603,10 @@ uint8_t opl_profile(const uint8_t *pipe, size_t n, uint16_t *profile, size_t m);
  *
  * The library keeps nothing of a pipe. Its memory is all zeros before frame 0, and from then on it is lent as the call
  * before left it. It is a ring of frames of mixed codewords: row `frame` mod (greatest delay + 1) takes those of this
- * frame. Any bytes are such a ring: what is in it comes out. Where the record or the sections of the pipe change, a
- * memory of zeros, of the new length, is to be lent. Each pipe has a memory of its own.
+ * frame. Any bytes are such a ring: what is in it comes out. Each pipe has a memory of its own. Of the record,
+ * Num_STS_1, Inter_Schedule_Period_Countdown_Slots and Schedule_Index are not looked at, and may be others with each
+ * frame; where anything else of the record or of the sections changes, a memory of zeros, of the new length, is to be
+ * lent.
  *
  * Where frames are made so one after the other, unit k of slot w in frame f is unit k of the mixed codeword of that slot
  * in frame f - Tap_Delay[k], and zeros before frame 0. A receiver that takes the units to their slots again, delays them

@@ -25,7 +25,7 @@ use Rattle.profile.specs.Profile.{maxDelay}
 use Rattle.profile.specs.Lent.{lentFields, lentSections}
 use Rattle.pipe.specs.Frame.{mixedFrame, unmixedFrame}
 use Rattle.pipe.specs.Piping.{lentWay, lentPattern, pipeFaults, piping}
-use Rattle.pipe.specs.Calls.{PipeCall, Runs, FramesRight, CodewordsBack, MemoryMost}
+use Rattle.pipe.specs.Calls.{PipeCall, SamePipe, Runs, FramesRight, CodewordsBack, MemoryMost}
 use Rattle.pipe.proofs.Chain.{frame-size, mixed-frame-length, whole-way, greatest}
 use Rattle.pipe.proofs.Stepping.{Fits, accepted, memory-most}
 
@@ -57,11 +57,11 @@ module _ (c : PipeCall) (d : Done c) (z : c .answer ≡ 0) where
   left = d .is .memory ∙ choose-true _ _ (eq-eqb (firstOf (pipeFaults (c .pipe) (c .codewords) (c .memory) (c .out))) 0 none)
 
   -- one frame through the ring, whatever pipe bytes and frame number it is called
-  pub stepped : (l : List ℕ) (f : ℕ) → c .pipe ≡ l → c .frame % depth (lentWay l) ≡ f % depth (lentWay l)
+  pub stepped : (l : List ℕ) (f : ℕ) → SamePipe l (c .pipe) → c .frame % depth (lentWay l) ≡ f % depth (lentWay l)
       → pair (c .leftMemory) (c .leftOut) ≡ ends (step (lentWay l) f (mixedFrame (lentPattern l) (lentWay l .slots) (c .codewords)) (c .memory))
   stepped l f e r =
       left
-      ∙ ap (λ (x : List ℕ). ends (step (lentWay x) (c .frame) (mixedFrame (lentPattern x) (lentWay x .slots) (c .codewords)) (c .memory))) e
+      ∙ ap₂ (λ (p : ℕ) (y : Way). ends (step y (c .frame) (mixedFrame p (y .slots) (c .codewords)) (c .memory))) (e .0) (e .1)
       ∙ ap ends (only-remainder (lentWay l) (c .frame) f r (mixedFrame (lentPattern l) (lentWay l .slots) (c .codewords)) (c .memory))
 
 pub memory-at-most : (c : PipeCall) → Done c → MemoryMost c
@@ -73,11 +73,17 @@ module _ (l : List ℕ) (calls : ℕ → PipeCall) (f : ℕ) (done : (g : ℕ) �
   abbrev y : Way
   y = lentWay l
 
-  fit : (g : ℕ) → g ≤ f → Fits l (calls g .codewords) (calls g .memory) (calls g .out)
-  fit g h = subst (λ (x : List ℕ). Fits x (calls g .codewords) (calls g .memory) (calls g .out)) (runs .pipe g h) (fits (calls g) (done g h) (runs .accepted g h))
+  fit : (g : ℕ) → g ≤ f → Fits (calls g .pipe) (calls g .codewords) (calls g .memory) (calls g .out)
+  fit g h = fits (calls g) (done g h) (runs .accepted g h)
+
+  framed : (g : ℕ) → g ≤ f → length (calls g .codewords) ≡ frameBytes (lentWay l)
+  framed g h = fit g h .frame ∙ ap (λ (y : Way). frameBytes y) (runs .pipe g h .1)
+
+  ringed : (g : ℕ) → g ≤ f → length (calls g .memory) ≡ depth (lentWay l) * frameBytes (lentWay l)
+  ringed g h = fit g h .ring ∙ ap (λ (y : Way). depth y * frameBytes y) (runs .pipe g h .1)
 
   known : lentPattern l < 28
-  known = omega (arith, fit 0 (omega arith) .pattern)
+  known = let h : 0 ≤ f = omega arith in omega (arith, fit 0 h .pattern, runs .pipe 0 h .0)
 
   sized : frameBytes (lentWay l) ≡ lentWay l .slots * codewordBytes (lentPattern l)
   sized = frame-size (lentFields l) (lentSections l) known
@@ -88,7 +94,7 @@ module _ (l : List ℕ) (calls : ℕ → PipeCall) (f : ℕ) (done : (g : ℕ) �
 
   memory-is : (g : ℕ) → g ≤ f → calls g .memory ≡ ringAt (lentWay l) (λ g. mixedFrame (lentPattern l) (lentWay l .slots) (calls g .codewords)) g
   unfolding ringAt
-  memory-is zero h = runs .fresh ∙ ap (λ (n : ℕ). replicate n 0) (fit 0 h .ring)
+  memory-is zero h = runs .fresh ∙ ap (λ (n : ℕ). replicate n 0) (ringed 0 h)
   memory-is (suc g) h =
       runs .kept g h
       ∙ ap (λ (m : List ℕ × List ℕ). m .0) (one g (omega arith))
@@ -122,6 +128,6 @@ codewords-back l calls f done runs late =
     let e : lentWay l .profile .greatest ≡ maxDelay (lentFields l) (lentSections l) = greatest (lentFields l) (lentSections l) p in
     ap (unmixedFrame (lentPattern l) (lentWay l .slots))
     (received-same (lentWay l) (λ g. calls g .leftOut) (pipeFrame (lentWay l) (λ g. mixedFrame (lentPattern l) (lentWay l .slots) (calls g .codewords))) f (frame-is l calls f done runs))
-    ∙ whole-way (lentFields l) (lentSections l) p (λ g. calls g .codewords) f (λ k q. fit l calls f done runs k q .frame)
+    ∙ whole-way (lentFields l) (lentSections l) p (λ g. calls g .codewords) f (framed l calls f done runs)
     (done (f - maxDelay (lentFields l) (lentSections l)) (omega arith) .bytes) (subst (λ (x : ℕ). x ≤ f) e late)
     ∙ ap (λ (x : ℕ). calls (f - x) .codewords) (sym e)

@@ -21,10 +21,15 @@ pub record PipeCall : Type 0 where
   pub leftMemory : List ℕ
   pub leftOut : List ℕ
 
+-- two forms of a pipe that make the same frames: the pattern, and what a frame is made by. The record's countdown, its schedule index and its number of
+-- streams may differ, as they do from frame to frame
+abbrev pub SamePipe : List ℕ → List ℕ → Type 0
+SamePipe l m = (lentPattern m ≡ lentPattern l) × (lentWay m ≡ lentWay l)
+
 -- the frames 0 to f of one pipe: the first call is lent zeros, each other what the one before it left; all are accepted. The number of a frame may be
 -- counted modulo the greatest delay + 1
 pub record Runs (l : List ℕ) (calls : ℕ → PipeCall) (f : ℕ) : Type 0 where
-  pub pipe : (g : ℕ) → g ≤ f → calls g .pipe ≡ l
+  pub pipe : (g : ℕ) → g ≤ f → SamePipe l (calls g .pipe)
   pub frame : (g : ℕ) → g ≤ f → calls g .frame % depth (lentWay l) ≡ g % depth (lentWay l)
   pub fresh : calls 0 .memory ≡ replicate (length (calls 0 .memory)) 0
   pub kept : (g : ℕ) → suc g ≤ f → calls (suc g) .memory ≡ calls g .leftMemory
