@@ -1,22 +1,26 @@
 -- What was gathered of a word's bits is what encoder 2 reads.
 -- Assumes nothing.
 use Prim.Native.Nat.{ℕ, _+_, _*_, _%_, _^_, _<_}
-use mathlib.Core.Path.{_≡_, sym, ap, _∙_, subst}
+use mathlib.Core.Path.{_≡_, refl, sym, ap, _∙_, subst}
+use mathlib.Core.Logic.{inr}
 use mathlib.Core.List.{List}
 use native.Mathlib.Decide.{decLt}
 use native.Mathlib.Omega.{arith}
+use lib.Dec.{ltb}
 use lib.Pow.{pow-pos}
 use lib.ListN.{length, getD}
 use borrow.Author.Tests.{eq-eqb, ne-eqb, lt-ltb, le-ltb}
+use Rattle.ground.specs.Choice.{choose}
 use Rattle.ground.proofs.Choice.{choose-true, choose-false}
 use Rattle.bits.specs.Places.{bitAt}
-use Rattle.bits.proofs.Places.{number-cong, packed-ext}
+use Rattle.bits.proofs.Places.{number-cong, packed-cong, packed-ext}
 use Rattle.order.specs.Order.{parameter, order}
 use Rattle.order.specs.Once.{Block}
 use Rattle.order.proofs.Once.{order-permutes}
 use Rattle.pairs.specs.Pairs.{pairsOf, unpacked, Paired}
 use Rattle.pairs.proofs.Coupling.{paired-bit, paired}
-use Rattle.pairs.proofs.Copying.{unpacked-long, unpacked-short}
+use Rattle.pairs.proofs.Copying.{unpacked-long}
+use Rattle.listed.specs.Listed.{listedBit, listed}
 use Rattle.interleaver.specs.Read.{blockFor, interleavedBit, interleaved}
 use Rattle.interleaver.specs.Inside.{readBit, Gathered}
 use Rattle.interleaver.proofs.Gathering.{sized}
@@ -52,5 +56,9 @@ module _ (N : ℕ) (b : Block N) (w d out : List ℕ) (e : d ≡ pairsOf w (2 ^ 
 pub pairs-long : (w d m : List ℕ) → length d ≡ 12288 → m ≡ unpacked w d → (m ≡ pairsOf w 512) × Paired 512 m
 pairs-long w d m e u = let f : m ≡ pairsOf w 512 = u ∙ unpacked-long w d e in (f, subst (Paired 512) (sym f) (paired w 512 (omega arith)))
 
-pub pairs-short : (w d m : List ℕ) → length d ≡ 768 → m ≡ unpacked w d → (m ≡ pairsOf w 32) × Paired 32 m
-pairs-short w d m e u = let f : m ≡ pairsOf w 32 = u ∙ unpacked-short w d e in (f, subst (Paired 32) (sym f) (paired w 32 (omega arith)))
+-- ---- what the stored list reads is the order's
+pub listed-is : (w : List ℕ) → listed (order 762) w ≡ interleaved 762 w
+unfolding listed listedBit interleaved interleavedBit
+listed-is w =
+    let size : length (order 762) ≡ 762 = order-permutes 762 (inr refl) .size in
+    packed-cong (listedBit (order 762) w) (interleavedBit w 762) 1536 (λ i h. ap (λ (n : ℕ). choose (ltb i n) (bitAt w (getD (order 762) i 0)) 0) size)

@@ -1,19 +1,28 @@
 -- `interleaver::interleaved` meets its contract. Assumes nothing.
 use Prim.Native.Nat.{ℕ}
 use mathlib.Core.Path.{refl, sym, ap, _∙_}
-use mathlib.Core.Logic.{inl, inr}
+use mathlib.Core.Logic.{inl}
 use lib.ListN.{replicate, length-replicate}
 use denote.Ref.{now}
 use Rattle.order.specs.Order.{parameter}
 use Rattle.interleaver.specs.Read.{interleaved}
-use Rattle.interleaver.proofs.Reading.{block-long, block-short, read-is, pairs-long, pairs-short}
+use Rattle.interleaver.proofs.Reading.{block-long, block-short, listed-is, read-is, pairs-long}
 use borrow.Author.Needs.{needs}
 use Rattle.interleaver.proofs.interleaved.Statement.{statement}
 use Rattle.interleaver.proofs.interleaved.Tie as tie
 use Rattle.interleaver.proofs.interleaved.Reads as reads
 use Rattle.interleaver.proofs.interleaved.Lts as lts
 use Rattle.interleaver.proofs.gather.gather.Reads as gather-reads
+use Rattle.listed.proofs.read.Reads as read-reads
 use Rattle.pairs.proofs.unpack.Reads as unpack-reads
+
+read-requires : tie.Need-read-requires
+read-requires c κs = search needs
+
+returns : tie.Need-returns
+returns c =
+    let a = c .before .before .before .args in
+    c .read .ensures ∙ listed-is (now (a .word)) ∙ ap (λ (n : ℕ). interleaved n (now (a .word))) (sym (block-short (a .n) (c .before .if1 .taken)))
 
 slice-aggregate-unpack : tie.Need-slice-aggregate-unpack
 slice-aggregate-unpack c = search needs
@@ -33,55 +42,24 @@ gather-requires c κs =
     let u = c .before .before .before .unpack in
     (inl refl, pairs-long (now (c .before .before .before .before .before .before .before .args .word)) (replicate 12288 0) (u .last .1 .0) (length-replicate {A = ℕ} 12288 0) (u .ensures) .1, refl)
 
-returns : tie.Need-returns
-unfolding parameter
-returns c =
-    let a = c .before .before .before .before .before .before .before .before .before .args in
-    let u = c .before .before .before .before .before .unpack in
-    let g = c .before .gather in
-    let p = pairs-long (now (a .word)) (replicate 12288 0) (u .last .1 .0) (length-replicate {A = ℕ} 12288 0) (u .ensures) in
-    read-is 12282 (inl refl) (now (a .word)) (u .last .1 .0) (g .last .1 .1 .0) (p .0) (g .ensures) ∙ ap (λ (n : ℕ). interleaved n (now (a .word))) (sym (block-long (a .n) (c .before .before .before .before .before .before .before .if1 .taken)))
-
-slice-aggregate-unpack-2 : tie.Need-slice-aggregate-unpack-2
-slice-aggregate-unpack-2 c = search needs
-
-unpack-requires-2 : tie.Need-unpack-requires-2
-unpack-requires-2 c κs = search needs
-
-slice-aggregate-gather-3 : tie.Need-slice-aggregate-gather-3
-slice-aggregate-gather-3 c = search needs
-
-slice-aggregate-gather-4 : tie.Need-slice-aggregate-gather-4
-slice-aggregate-gather-4 c = search needs
-
-gather-requires-2 : tie.Need-gather-requires-2
-unfolding parameter
-gather-requires-2 c κs =
-    let u = c .before .before .before .unpack2 in
-    (inr refl, pairs-short (now (c .before .before .before .before .before .before .before .args .word)) (replicate 768 0) (u .last .1 .0) (length-replicate {A = ℕ} 768 0) (u .ensures) .1, refl)
-
 returns-2 : tie.Need-returns-2
 unfolding parameter
 returns-2 c =
     let a = c .before .before .before .before .before .before .before .before .before .args in
-    let u = c .before .before .before .before .before .unpack2 in
-    let g = c .before .gather2 in
-    let p = pairs-short (now (a .word)) (replicate 768 0) (u .last .1 .0) (length-replicate {A = ℕ} 768 0) (u .ensures) in
-    read-is 762 (inr refl) (now (a .word)) (u .last .1 .0) (g .last .1 .1 .0) (p .0) (g .ensures) ∙ ap (λ (n : ℕ). interleaved n (now (a .word))) (sym (block-short (a .n) (c .before .before .before .before .before .before .before .if1 .left)))
+    let u = c .before .before .before .before .before .unpack in
+    let g = c .before .gather in
+    let p = pairs-long (now (a .word)) (replicate 12288 0) (u .last .1 .0) (length-replicate {A = ℕ} 12288 0) (u .ensures) in
+    read-is 12282 (inl refl) (now (a .word)) (u .last .1 .0) (g .last .1 .1 .0) (p .0) (g .ensures) ∙ ap (λ (n : ℕ). interleaved n (now (a .word))) (sym (block-long (a .n) (c .before .before .before .before .before .before .before .if1 .left)))
 
 pub interleaved-spec : {M : Type 1} → statement M
 interleaved-spec =
     tie.close
     (tie.spec
+    read-requires
+    returns
     slice-aggregate-unpack
     unpack-requires
     slice-aggregate-gather
     slice-aggregate-gather-2
     gather-requires
-    returns
-    slice-aggregate-unpack-2
-    unpack-requires-2
-    slice-aggregate-gather-3
-    slice-aggregate-gather-4
-    gather-requires-2
     returns-2)
