@@ -35,7 +35,7 @@
 /* The version of this header and of the library that comes with it: numbers, and a text of them with dots. */
 #define OPL_VERSION_MAJOR 0
 #define OPL_VERSION_MINOR 5
-#define OPL_VERSION_PATCH 0
+#define OPL_VERSION_PATCH 1
 #define OPL_VERSION OPL_DOTTED(OPL_VERSION_MAJOR, OPL_VERSION_MINOR, OPL_VERSION_PATCH)
 
 /* How that text is made, in two steps: # alone takes a macro's name and not its number. */

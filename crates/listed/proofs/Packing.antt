@@ -52,10 +52,12 @@ unfolding readBit
 zeros-read d p n h = number-cong (readBit d) (λ k. 0) p n (λ k l. choose-false (getD d (getD (order 762) (p + k) 0) 0) 0 (le-ltb (p + k) 762 (omega arith))) ∙ number-zeros p n
 
 -- ---- eight bits, four and four
-pub eight-is : (f : ℕ → ℕ) (p b₀ b₁ b₂ b₃ b₄ b₅ b₆ b₇ : ℕ) → b₀ ≡ f p → b₁ ≡ f (p + 1) → b₂ ≡ f (p + 2) → b₃ ≡ f (p + 3) → b₄ ≡ f (p + 4) → b₅ ≡ f (p + 5) → b₆ ≡ f (p + 6) → b₇ ≡ f (p + 7)
-    → (((b₀ * 2 + b₁) * 2 + b₂) * 2 + b₃) * 16 + (((b₄ * 2 + b₅) * 2 + b₆) * 2 + b₇) ≡ number f p 8
+pub four-is : (f : ℕ → ℕ) (p b₀ b₁ b₂ b₃ : ℕ) → b₀ ≡ f p → b₁ ≡ f (p + 1) → b₂ ≡ f (p + 2) → b₃ ≡ f (p + 3) → ((b₀ * 2 + b₁) * 2 + b₂) * 2 + b₃ ≡ number f p 4
 unfolding number
-eight-is f p b₀ b₁ b₂ b₃ b₄ b₅ b₆ b₇ e₀ e₁ e₂ e₃ e₄ e₅ e₆ e₇ = let z : f (p + 0) ≡ f p = ap f (add-zero p) in omega arith
+four-is f p b₀ b₁ b₂ b₃ e₀ e₁ e₂ e₃ = let z : f (p + 0) ≡ f p = ap f (add-zero p) in omega arith
+
+pub eight-is : (f : ℕ → ℕ) (p a b : ℕ) → a ≡ number f p 4 → b ≡ number f (p + 4) 4 → a * 16 + b ≡ number f p 8
+eight-is f p a b e g = omega (arith, number-append f p 4 4)
 
 -- ---- i bytes of what is read stand, and zeros behind them
 abbrev pub Reading : List ℕ → List ℕ → ℕ → Type 0

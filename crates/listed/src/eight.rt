@@ -13,16 +13,13 @@ fn bit(list: &[u16; 762], d: &[u8], p: usize) -> u8
     d[list[p] as usize]
 }
 
-// Eight bits, from the period p on.
-fn eight(list: &[u16; 762], d: &[u8], p: usize) -> u8
-    requires { ⌜ Ready (now list) (now d) × (p + 8 ≤ 762) ⌝ }
-    ensures { λ r. ⌜ r ≡ number (readBit (now (d .entry))) p 8 ⌝ }
+// Four bits, from the period p on.
+fn four(list: &[u16; 762], d: &[u8], p: usize) -> u8
+    requires { ⌜ Ready (now list) (now d) × (p + 4 ≤ 762) ⌝ }
+    ensures { λ r. ⌜ (r ≡ number (readBit (now (d .entry))) p 4) × (r < 16) ⌝ }
 {
-    let a = ((bit(list, d, p) * 2 + bit(list, d, p + 1)) * 2 + bit(list, d, p + 2)) * 2
-        + bit(list, d, p + 3);
-    let b = ((bit(list, d, p + 4) * 2 + bit(list, d, p + 5)) * 2 + bit(list, d, p + 6)) * 2
-        + bit(list, d, p + 7);
-    a * 16 + b
+    ((bit(list, d, p) * 2 + bit(list, d, p + 1)) * 2 + bit(list, d, p + 2)) * 2
+        + bit(list, d, p + 3)
 }
 
 // All bits, packed: 95 bytes, and the two bits behind them.
@@ -32,7 +29,7 @@ pub fn pack(list: &[u16; 762], d: &[u8], out: &mut [u8])
 {
     let mut i: usize = 0;
     while i < 95 {
-        out[i] = eight(list, d, 8 * i);
+        out[i] = four(list, d, 8 * i) * 16 + four(list, d, 8 * i + 4);
         i += 1;
     }
     out[95] = bit(list, d, 760) * 128 + bit(list, d, 761) * 64;

@@ -71,8 +71,7 @@ loop-again c =
     let x : ℕ = getD (b .args .word .now) (l .i) 0 in
     let q : x < 256 = omega (arith, c .before .before .before .before .before .before .before .before .shared-slice-known2 .given (c .before .before .before .before .before .before .before .before .before .before .before .loop .i)) in
     let u = c .before .before .before .before .before .before .put in
-    let v = c .before .before .put2 in
-    (
+    let v = c .before .before .put2 in (
       omega arith,
       v .ensures .len ∙ u .ensures .len ∙ l .inv .1,
       unpacking-more _ refl (b .args .word .now) (l .d) (u .last .0) (v .last .0) (l .i) (l .inv .2) q (u .ensures) (v .ensures),
