@@ -16,41 +16,41 @@ use Rattle.ground.proofs.Table.{getD-tab, at-all}
 use Rattle.bits.specs.Places.{bitAt}
 use Rattle.pairs.specs.Inside.{Stored}
 use Rattle.pairs.proofs.Spreading.{bit-of-byte}
-use Rattle.listed.specs.Inside.{four, Singles}
+use Rattle.listed.specs.Inside.{fourBit, Singles}
 
 -- ---- the table of four bits
-four-at : (t : List ℕ) → t ≡ tab four 0 16 → (v : ℕ) → v < 16 → getD t v 0 ≡ four v
-four-at t e v h = ap (λ (l : List ℕ). getD l v 0) e ∙ getD-tab four 0 0 16 v h ∙ ap four (zero-add v)
+four-at : (t : List ℕ) → t ≡ tab fourBit 0 64 → (i : ℕ) → i < 64 → getD t i 0 ≡ fourBit i
+four-at t e i h = ap (λ (l : List ℕ). getD l i 0) e ∙ getD-tab fourBit 0 0 64 i h ∙ ap fourBit (zero-add i)
 
--- the digits of a byte's upper four bits and of its lower four are the byte's bits
+-- a byte's upper four bits and its lower four are the byte's bits
 upper : ℕ → ℕ → Bool
-upper b k = eqb (four (b / 16) / 256 ^ k % 256) (b / 2 ^ (7 - k) % 2)
+upper b k = eqb (fourBit (4 * (b / 16) + k)) (b / 2 ^ (7 - k) % 2)
 
 lower : ℕ → ℕ → Bool
-lower b k = eqb (four (b % 16) / 256 ^ k % 256) (b / 2 ^ (7 - (4 + k)) % 2)
+lower b k = eqb (fourBit (4 * (b % 16) + k)) (b / 2 ^ (7 - (4 + k)) % 2)
 
-spread : ℕ → Bool
-spread b = allBelow (λ k. both (upper b k) (lower b k)) 4
+halves : ℕ → Bool
+halves b = allBelow (λ k. both (upper b k) (lower b k)) 4
 
-all-spread : T (allBelow spread 256)
-unfolding spread upper lower four
-all-spread = tt
+all-halves : T (allBelow halves 256)
+unfolding halves upper lower fourBit
+all-halves = tt
 
-spread-at : (b k : ℕ) → b < 256 → k < 4 → T (both (upper b k) (lower b k))
-unfolding spread
-spread-at b k h l = at-all (λ i. both (upper b i) (lower b i)) 4 (at-all spread 256 all-spread b h) k l
+halves-at : (b k : ℕ) → b < 256 → k < 4 → T (both (upper b k) (lower b k))
+unfolding halves
+halves-at b k h l = at-all (λ i. both (upper b i) (lower b i)) 4 (at-all halves 256 all-halves b h) k l
 
-upper-bit : (t : List ℕ) → t ≡ tab four 0 16 → (b k : ℕ) → b < 256 → k < 4 → getD t (b / 16) 0 / 256 ^ k % 256 ≡ b / 2 ^ (7 - k) % 2
+upper-bit : (t : List ℕ) → t ≡ tab fourBit 0 64 → (b k : ℕ) → b < 256 → k < 4 → getD t (4 * (b / 16) + k) 0 ≡ b / 2 ^ (7 - k) % 2
 unfolding upper
 upper-bit t e b k h l =
-    ap (λ (x : ℕ). x / 256 ^ k % 256) (four-at t e (b / 16) (omega arith))
-    ∙ eqb→eq (four (b / 16) / 256 ^ k % 256) (b / 2 ^ (7 - k) % 2) (both-left (upper b k) (lower b k) (spread-at b k h l))
+    four-at t e (4 * (b / 16) + k) (omega arith)
+    ∙ eqb→eq (fourBit (4 * (b / 16) + k)) (b / 2 ^ (7 - k) % 2) (both-left (upper b k) (lower b k) (halves-at b k h l))
 
-lower-bit : (t : List ℕ) → t ≡ tab four 0 16 → (b k : ℕ) → b < 256 → k < 4 → getD t (b % 16) 0 / 256 ^ k % 256 ≡ b / 2 ^ (7 - (4 + k)) % 2
+lower-bit : (t : List ℕ) → t ≡ tab fourBit 0 64 → (b k : ℕ) → b < 256 → k < 4 → getD t (4 * (b % 16) + k) 0 ≡ b / 2 ^ (7 - (4 + k)) % 2
 unfolding lower
 lower-bit t e b k h l =
-    ap (λ (x : ℕ). x / 256 ^ k % 256) (four-at t e (b % 16) (omega arith))
-    ∙ eqb→eq (four (b % 16) / 256 ^ k % 256) (b / 2 ^ (7 - (4 + k)) % 2) (both-right (upper b k) (lower b k) (spread-at b k h l))
+    four-at t e (4 * (b % 16) + k) (omega arith)
+    ∙ eqb→eq (fourBit (4 * (b % 16) + k)) (b / 2 ^ (7 - (4 + k)) % 2) (both-right (upper b k) (lower b k) (halves-at b k h l))
 
 -- ---- the bits of i bytes of the word stand, and zeros behind them
 pub record Unpacking (w d : List ℕ) (i : ℕ) : Type 0 where
@@ -65,9 +65,9 @@ unpacking-none w = record { len = length-replicate {A = ℕ} 768 0; bits = λ a 
 at-place : (f : ℕ → ℕ) (g : ℕ → ℕ) (s a : ℕ) → s ≤ a → f (s + (a - s)) ≡ g (s + (a - s)) → f a ≡ g a
 at-place f g s a h e = let c : s + (a - s) ≡ a = omega arith in subst (λ (z : ℕ). f z ≡ g z) c e
 
-module _ (t : List ℕ) (e : t ≡ tab four 0 16) (w d d' d'' : List ℕ) (i : ℕ) (p : Unpacking w d i) (small : getD w i 0 < 256)
-    (u : Stored d (8 * i) (λ k. getD t (getD w i 0 / 16) 0 / 256 ^ k % 256) d' 4)
-    (l : Stored d' (8 * i + 4) (λ k. getD t (getD w i 0 % 16) 0 / 256 ^ k % 256) d'' 4) where
+module _ (t : List ℕ) (e : t ≡ tab fourBit 0 64) (w d d' d'' : List ℕ) (i : ℕ) (p : Unpacking w d i) (small : getD w i 0 < 256)
+    (u : Stored d (8 * i) (λ k. getD t (4 * (getD w i 0 / 16) + k) 0) d' 4)
+    (l : Stored d' (8 * i + 4) (λ k. getD t (4 * (getD w i 0 % 16) + k) 0) d'' 4) where
   upper-four : (k : ℕ) → k < 4 → getD d'' (8 * i + k) 0 ≡ bitAt w (8 * i + k)
   upper-four k h = l .before (8 * i + k) (omega arith) ∙ u .here k h ∙ upper-bit t e (getD w i 0) k small h ∙ sym (bit-of-byte w i k (omega arith))
 

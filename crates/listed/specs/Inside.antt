@@ -1,6 +1,6 @@
 -- What functions inside this crate ask and promise; no public promise leads here.
 -- Assumes nothing.
-use Prim.Native.Nat.{ℕ, _+_, _*_, _/_, _%_, _<_}
+use Prim.Native.Nat.{ℕ, _-_, _/_, _%_, _^_, _<_}
 use mathlib.Core.Path.{_≡_}
 use mathlib.Core.List.{List}
 use lib.Dec.{ltb}
@@ -9,9 +9,9 @@ use Rattle.ground.specs.Choice.{choose}
 use Rattle.bits.specs.Places.{bitAt}
 use Rattle.order.specs.Order.{order}
 
--- four bits as digits in base 256, the top bit lowest
-unfoldable pub four : ℕ → ℕ
-four v = v / 8 % 2 + 256 * (v / 4 % 2) + 65536 * (v / 2 % 2) + 16777216 * (v % 2)
+-- the bits of 0, 1, .. to 15, four of each, one number after the other
+unfoldable pub fourBit : ℕ → ℕ
+fourBit i = i / 4 / 2 ^ (3 - i % 4) % 2
 
 -- the bits of a word's first 96 bytes, a byte to a bit
 pub record Singles (w d : List ℕ) : Type 0 where

@@ -6,7 +6,7 @@ use native.Mathlib.Omega.{arith}
 use lib.ListN.{length, getD}
 use borrow.Author.Tests.{ltb-true, ltb-false}
 use Rattle.ground.specs.Table.{tab}
-use Rattle.listed.specs.Inside.{four}
+use Rattle.listed.specs.Inside.{fourBit}
 use Rattle.listed.proofs.Singly.{Unpacking, unpacking-none, unpacking-more, unpacking-all}
 use Rattle.listed.proofs.single.unpack.Statement.{statement}
 use Rattle.listed.proofs.single.unpack.Tie as tie
@@ -32,29 +32,17 @@ cast-b c = omega (arith, c .shared-slice-known2 .given (c .before .before .befor
 mul-put : tie.Need-mul-put Inv-loop μ-loop
 mul-put c = omega arith
 
-mul-put-2 : tie.Need-mul-put-2 Inv-loop μ-loop
-mul-put-2 c = omega (arith, c .before .shared-slice-known2 .given (c .before .before .before .before .loop .i))
-
-array-read-put : tie.Need-array-read-put Inv-loop μ-loop
-array-read-put c = omega (arith, c .before .shared-slice-known2 .given (c .before .before .before .before .loop .i))
-
 put-requires : tie.Need-put-requires Inv-loop μ-loop
-put-requires c κs = omega (arith, c .before .before .before .before .loop .inv .2 .len)
+put-requires c κs = (omega (arith, c .before .before .shared-slice-known2 .given (c .before .before .before .before .before .loop .i)), omega (arith, c .before .before .before .before .before .loop .inv .2 .len))
 
-mul-put-3 : tie.Need-mul-put-3 Inv-loop μ-loop
-mul-put-3 c = omega arith
+mul-put-2 : tie.Need-mul-put-2 Inv-loop μ-loop
+mul-put-2 c = omega arith
 
 add-put : tie.Need-add-put Inv-loop μ-loop
 add-put c = omega arith
 
-mul-put-4 : tie.Need-mul-put-4 Inv-loop μ-loop
-mul-put-4 c = omega (arith, c .before .before .before .before .before .shared-slice-known2 .given (c .before .before .before .before .before .before .before .before .loop .i))
-
-array-read-put-2 : tie.Need-array-read-put-2 Inv-loop μ-loop
-array-read-put-2 c = omega (arith, c .before .before .before .before .before .shared-slice-known2 .given (c .before .before .before .before .before .before .before .before .loop .i))
-
 put-requires-2 : tie.Need-put-requires-2 Inv-loop μ-loop
-put-requires-2 c κs = omega (arith, c .before .before .before .put .ensures .len, c .before .before .before .before .before .before .before .before .loop .inv .2 .len)
+put-requires-2 c κs = (omega (arith, c .before .before .before .before .before .before .before .shared-slice-known2 .given (c .before .before .before .before .before .before .before .before .before .before .loop .i)), omega (arith, c .before .before .before .before .put .ensures .len, c .before .before .before .before .before .before .before .before .before .before .loop .inv .2 .len))
 
 add-i : tie.Need-add-i Inv-loop μ-loop
 add-i c = omega arith
@@ -64,17 +52,17 @@ loop-less c = omega arith
 
 -- the table is that of the rule, by computation
 loop-again : tie.Need-loop-again Inv-loop μ-loop
-unfolding tab four
+unfolding tab fourBit
 loop-again c =
-    let b = c .before .before .before .before .before .before .before .before .before .before .before .before .before .before in
-    let l = c .before .before .before .before .before .before .before .before .before .before .before .loop in
+    let b = c .before .before .before .before .before .before .before .before .before .before .before .before .before .before .before .before in
+    let l = c .before .before .before .before .before .before .before .before .before .before .before .before .before .loop in
     let x : ℕ = getD (b .args .word .now) (l .i) 0 in
-    let q : x < 256 = omega (arith, c .before .before .before .before .before .before .before .before .shared-slice-known2 .given (c .before .before .before .before .before .before .before .before .before .before .before .loop .i)) in
-    let u = c .before .before .before .before .before .before .put in
+    let q : x < 256 = omega (arith, c .before .before .before .before .before .before .before .before .before .before .shared-slice-known2 .given (c .before .before .before .before .before .before .before .before .before .before .before .before .before .loop .i)) in
+    let u = c .before .before .before .before .before .before .before .put in
     let v = c .before .before .put2 in (
       omega arith,
       v .ensures .len ∙ u .ensures .len ∙ l .inv .1,
-      unpacking-more _ refl (b .args .word .now) (l .d) (u .last .0) (v .last .0) (l .i) (l .inv .2) q (u .ensures) (v .ensures),
+      unpacking-more _ refl (b .args .word .now) (l .d) (u .last .1 .1 .0) (v .last .1 .1 .0) (l .i) (l .inv .2) q (u .ensures) (v .ensures),
     )
 
 same-length : tie.Need-same-length Inv-loop μ-loop
@@ -99,13 +87,9 @@ unpack-spec =
     shared-slice-read-b
     cast-b
     mul-put
-    mul-put-2
-    array-read-put
     put-requires
-    mul-put-3
+    mul-put-2
     add-put
-    mul-put-4
-    array-read-put-2
     put-requires-2
     add-i
     loop-less
