@@ -65,7 +65,7 @@ extern "C" {
  * it calls. A test measures both (compare/tests/stack.rs) and fails where a call takes more. Not counted is
  * what a dynamic linker takes, some 3,000 bytes, when memcpy or memset is called for the first time.
  */
-#define OPL_ENCODE_STACK 24000
+#define OPL_ENCODE_STACK 20000
 #define OPL_OTHER_STACK 3000
 
 /* The refusal numbers. Names such as Sig_Pipe_Ver are the standard's. */
