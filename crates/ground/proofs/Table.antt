@@ -1,16 +1,17 @@
 -- Laws of tables: an entry by its place, and a rule at each entry from one computed test.
 -- Assumes nothing.
 use mathlib.Core.Path.{_≡_, refl, sym, ap, ap₂, _∙_, subst}
-use mathlib.Core.Bool.{Bool}
+use mathlib.Core.Bool.{Bool, true}
 use mathlib.Core.List.{List, [], _∷_, _++_, map}
 use Prim.Native.Nat.{ℕ, zero, suc, _+_, _-_, _≤_, _<_}
 use native.Mathlib.Nat.{add-zero, zero-add, add-suc, suc-add, sub-zero, suc-sub-suc, not-suc-le-zero}
 use native.Mathlib.Decide.{decLt}
 use native.Mathlib.Omega.{arith}
-use lib.Dec.{T}
+use borrow.Author.Tests.{eq-eqb}
+use lib.Dec.{T, eqb, eqb→eq}
 use lib.ListN.{length, getD, take, drop}
 use lib.Seq.{ext-getD}
-use Rattle.ground.specs.Table.{tab, allBelow}
+use Rattle.ground.specs.Table.{tab, allBelow, same}
 use Rattle.ground.proofs.Choice.{both-left, both-right}
 
 pub length-tab : {A : Type 0} (f : ℕ → A) (i n : ℕ) → length (tab f i n) ≡ n
@@ -86,3 +87,17 @@ unfolding tab
 take-tab f i n zero h = refl
 take-tab f i zero (suc k) h = absurd (not-suc-le-zero h)
 take-tab f i (suc n) (suc k) h = ap (λ l. f i ∷ l) (take-tab f (suc i) n k (omega arith))
+
+-- ---- two lists entry by entry
+pub same-refl : (l : List ℕ) → same l l ≡ true
+unfolding same
+same-refl [] = refl
+same-refl (x ∷ l) = simp (eq-eqb x x refl, same-refl l)
+
+pub same-is : (l m : List ℕ) → T (same l m) → l ≡ m
+unfolding same
+same-is [] [] t = refl
+same-is [] (y ∷ m) t = absurd t
+same-is (x ∷ l) [] t = absurd t
+same-is (x ∷ l) (y ∷ m) t =
+    ap₂ (λ (a : ℕ) (n : List ℕ). a ∷ n) (eqb→eq x y (both-left (eqb x y) (same l m) t)) (same-is l m (both-right (eqb x y) (same l m) t))

@@ -17,9 +17,11 @@ use Rattle.bits.specs.Lists.{bits, num, unpack, pack}
 use Rattle.preamble.specs.Preamble.{sof, inverse, sofInverted, due, written}
 use Rattle.preamble.proofs.Laws.{due-length}
 use Rattle.preamble.proofs.Alternates.{left}
-use Rattle.preamble_form.specs.Forms.{same, formOf, told, forming, formInto}
+use Rattle.ground.specs.Table.{same}
+use Rattle.ground.proofs.Table.{same-refl, same-is}
+use Rattle.preamble_form.specs.Forms.{formOf, told, forming, formInto}
 use Rattle.preamble_form.specs.Alternates.{asked, Formed}
-use Rattle.preamble_form.proofs.Telling.{same-refl, same-is, tells-form, form-told, into-done}
+use Rattle.preamble_form.proofs.Telling.{tells-form, form-told, into-done}
 
 -- ---- what a form says
 

@@ -2,37 +2,25 @@
 -- Assumes nothing.
 use Prim.Native.Nat.{ℕ, zero, suc, _<_}
 use mathlib.Core.Bool.{Bool, true, false, _&&_}
-use mathlib.Core.Path.{_≡_, refl, sym, ap, ap₂, _∙_, subst}
+use mathlib.Core.Path.{_≡_, refl, sym, ap, _∙_, subst}
 use mathlib.Core.List.{List, [], _∷_}
 use native.Mathlib.Nat.{not-suc-le-zero}
 use native.Mathlib.Omega.{arith}
 use borrow.Author.Tests.{eq-eqb, ne-eqb}
-use lib.Dec.{eqb, eqb→eq, T}
+use lib.Dec.{eqb}
 use lib.ListN.{length, getD, take}
 use Rattle.ground.specs.Outcome.{Is, Told}
 use Rattle.ground.specs.Choice.{choose, both, firstOf}
-use Rattle.ground.proofs.Choice.{choose-true, choose-false, both-left, both-right}
+use Rattle.ground.specs.Table.{same}
+use Rattle.ground.proofs.Choice.{choose-true, choose-false}
 use Rattle.ground.proofs.Refusing.{refusal-leaves, acceptance-leaves}
 use Rattle.ground.proofs.Answers.{refusedBy, acceptedWith, verdict-accepted, verdict-refused, refused-by, accepted-with}
 use Rattle.preamble.specs.Preamble.{sofInverted, due}
-use Rattle.preamble_form.specs.Forms.{same, formOf, told, formFaults, forming, formInto}
+use Rattle.preamble_form.specs.Forms.{formOf, told, formFaults, forming, formInto}
 use Rattle.preamble_form.specs.declared.Form.{Form}
 use Rattle.preamble_form.specs.declared.Form.the-variants.{Neither, Upright, Inverted, Refused}
 
 -- ---- the test
-
-pub same-refl : (l : List ℕ) → same l l ≡ true
-unfolding same
-same-refl [] = refl
-same-refl (x ∷ l) = simp (eq-eqb x x refl, same-refl l)
-
-pub same-is : (l m : List ℕ) → T (same l m) → l ≡ m
-unfolding same
-same-is [] [] t = refl
-same-is [] (y ∷ m) t = absurd t
-same-is (x ∷ l) [] t = absurd t
-same-is (x ∷ l) (y ∷ m) t =
-    ap₂ (λ (a : ℕ) (n : List ℕ). a ∷ n) (eqb→eq x y (both-left (eqb x y) (same l m) t)) (same-is l m (both-right (eqb x y) (same l m) t))
 
 -- one entry more
 pub same-more : (l m : List ℕ) (i : ℕ) → i < length l → i < length m

@@ -1,22 +1,16 @@
 -- Which of the two preambles bytes are, if any (request 2026-01: "given 32 bytes, say upright, inverted or neither").
 -- Assumes nothing.
 use Prim.Native.Nat.{ℕ}
-use mathlib.Core.Bool.{Bool, true, false, not}
+use mathlib.Core.Bool.{not}
 use mathlib.Core.List.{List, [], _∷_}
 use lib.Dec.{eqb}
 use lib.ListN.{length}
 use Rattle.ground.specs.Outcome.{Outcome, Told}
-use Rattle.ground.specs.Choice.{choose, both, Fault, refuse, firstOf, refusing, verdict}
+use Rattle.ground.specs.Choice.{choose, Fault, refuse, firstOf, refusing, verdict}
+use Rattle.ground.specs.Table.{same}
 use Rattle.preamble.specs.Preamble.{sof, sofInverted}
 use Rattle.preamble_form.specs.declared.Form.{Form}
 use Rattle.preamble_form.specs.declared.Form.the-variants.{Neither, Upright, Inverted, Refused}
-
--- two lists have the same entries
-unfoldable pub same : List ℕ → List ℕ → Bool
-same [] [] = true
-same [] (y ∷ m) = false
-same (x ∷ l) [] = false
-same (x ∷ l) (y ∷ m) = both (eqb x y) (same l m)
 
 -- 1 for the upright preamble, 2 for the inverted one, 0 for what is neither
 unfoldable pub formOf : List ℕ → ℕ

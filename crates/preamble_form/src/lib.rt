@@ -7,7 +7,8 @@ ghost use mathlib.Core.List.{[], _∷_};
 ghost use lib.ListN.{length};
 ghost use Rattle.ground.specs.Outcome.{Is};
 ghost use Rattle.preamble.specs.Preamble.{due};
-ghost use Rattle.preamble_form.specs.Forms.{same, told, forming, formInto};
+ghost use Rattle.ground.specs.Table.{same};
+ghost use Rattle.preamble_form.specs.Forms.{told, forming, formInto};
 
 // What 32 bytes are, or the number of the refusal of others.
 pub enum Form {

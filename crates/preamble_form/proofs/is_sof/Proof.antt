@@ -10,7 +10,7 @@ use lib.ListN.{getD, take}
 use lib.Seq.{take-all}
 use Rattle.preamble.specs.Preamble.{due}
 use Rattle.preamble.proofs.Laws.{due-length}
-use Rattle.preamble_form.specs.Forms.{same}
+use Rattle.ground.specs.Table.{same}
 use Rattle.preamble_form.proofs.Telling.{same-more}
 use borrow.Author.Needs.{needs}
 use Rattle.preamble_form.proofs.is_sof.Statement.{statement}

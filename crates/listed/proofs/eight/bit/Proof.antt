@@ -1,6 +1,4 @@
 -- `listed::eight::bit` meets its contract. Assumes nothing.
-use Prim.Native.Nat.{ℕ, _<_}
-use mathlib.Core.Path.{_≡_}
 use native.Mathlib.Omega.{arith}
 use lib.ListN.{getD}
 use Rattle.listed.proofs.Packing.{address-lt, bit-read}
