@@ -1,4 +1,6 @@
 // Packed bits (annex A): the first bit is the top bit of the first byte, and a number stands most significant bit first.
+#![tactic(auto)]
+
 ghost use Rattle.std.specs.Prelude.{◌≡◌, ◌+◌, ◌-◌, ◌/◌, ◌%◌, ◌^◌, ◌<◌, get_or};
 ghost use Rattle.bits.specs.Places.{bit_at, field_at};
 

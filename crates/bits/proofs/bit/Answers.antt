@@ -1,0 +1,8 @@
+-- `bits::bit` meets its contract. Assumes nothing.
+use Rattle.bits.specs.Places.{bit_at}
+use borrow.Author.Rules.{rules}
+use Rattle.bits.proofs.bit.Goals as goal
+
+pub returns : goal.returns
+unfolding bit_at
+returns c = c.bit_of.ensures
