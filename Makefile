@@ -1,5 +1,5 @@
 # `make demo` and `make test` are all that a fresh clone needs; README.md says what must be installed.
-# All that is built stands under target/ and compare/target/.
+# All that is built stands under target/ and compare/target/; the toolchain keeps its own work in crates/*/out/.
 
 archive := target/staticlib/libopl.a
 # the same for the machine at hand, to measure and to run under a memory checker
@@ -25,7 +25,7 @@ includedir := $(PREFIX)/include
 libdir := $(PREFIX)/lib
 pkgconfigdir := $(libdir)/pkgconfig
 # folders too, so that a file that is gone counts as a change
-sources := crates.txt $(shell find crates -name must-fail -prune -o \( -type d -o -name '*.rt' -o -name '*.antt' \) -print)
+sources := crates.txt $(shell find crates \( -name must-fail -o -name out \) -prune -o \( -type d -o -name '*.rt' -o -name '*.antt' \) -print)
 
 # how many pairs of words `make self-test` adds under each pattern; empty: as many as the head-end does by itself
 pairs :=
@@ -107,11 +107,11 @@ install-test: $(archive)
 	@sh tools/install-test.sh
 
 clean:
-	rm -rf target compare/target
+	rm -rf target compare/target crates/*/out
 
 # looked for here, not before: `sudo make install` of a library that is built needs no rt
 $(archive): $(sources)
-	$(call need,lib)@rt staticlib opl
+	$(call need,lib)@sh tools/built.sh opl $@
 
 $(native): tools/native.sh $(archive)
 	@sh tools/native.sh $@
@@ -120,10 +120,9 @@ $(headend): $(wildcard examples/*.c examples/*.h) $(headers) tools/x86-64.sh $(a
 	@mkdir -p $(@D)
 	@sh tools/x86-64.sh build $@ $(filter %.c,$^)
 
-# after the archive, not beside it: both prove into target/; touched, as rt leaves alone what is up to date
+# after the archive, not beside it: both prove the crates that they share
 target/bin/listing: $(sources) | need-demo $(archive)
-	@rt check listing
-	@touch -c $@
+	@sh tools/built.sh listing $@
 
 need-demo need-self-test need-test need-bench need-soak: need-%:
 	$(call need,$*)@:

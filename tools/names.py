@@ -23,8 +23,8 @@ TOP = Path(__file__).resolve().parent.parent
 # what the repository does not have and documents may name
 KNOWN = {
     *("word.c", "./word"),  # README.md's program, saved and built by whoever reads it
-    *("F-spec", "F-agrees", "agrees"),  # the theorems of a function, where F stands for its name
-    *("axioms", "trusted"),  # what rt prints
+    *("F_spec", "F_agrees", "agrees"),  # the theorems of a function, where F stands for its name
+    *("axioms", "trusted", "logic-built"),  # what rt prints
     *("libc::read", "libc::write"),  # of the toolchain's libraries
 }
 
@@ -45,7 +45,7 @@ def files():
     """The files of the repository, by their paths in it, without what is built."""
     built = ("target/", "compare/target/", ".git/")
     paths = (path.relative_to(TOP) for path in TOP.rglob("*") if path.is_file())
-    return [path for path in paths if not path.as_posix().startswith(built)]
+    return [path for path in paths if not path.as_posix().startswith(built) and "out" not in path.parts[:-1]]
 
 
 def words(path):
