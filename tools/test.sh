@@ -49,8 +49,8 @@ if grep -E '^rt: ok.*, [1-9][0-9]* bad' "$said"; then
     false
 fi
 
-begin 'the library'
-make --no-print-directory lib
+begin 'the library and the listing program'
+make --no-print-directory lib target/bin/listing
 
 begin "the library's symbols"
 sh tools/symbols.sh target/staticlib/libopl.a

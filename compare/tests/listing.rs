@@ -24,7 +24,7 @@ fn printed(pieces: &[&[u8]]) -> String {
     let program = file("target/bin/listing");
     assert!(
         program.is_file(),
-        "target/bin/listing is not there: run `rt check listing` first"
+        "target/bin/listing is not there: run `make target/bin/listing` first"
     );
     let mut child = Command::new("sh")
         .arg(file("tools/x86-64.sh"))
