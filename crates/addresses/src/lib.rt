@@ -1,5 +1,7 @@
 // The order of the signalling word's block (clause 4.4.4) as a stored list. That word is encoded for each frame, and the rule passes over 262 of its 1,024 counter
 // values each time.
+#![tactic(auto)]
+
 ghost use Rattle.std.specs.Prelude.{◌≡◌};
 ghost use Rattle.order.specs.Order.{order};
 

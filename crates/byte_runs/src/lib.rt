@@ -1,4 +1,6 @@
 // Bytes in lent memory: a copy of a run to a place, and one byte from a place on; and the number in two bytes.
+#![tactic(auto)]
+
 ghost use Rattle.std.specs.Prelude.{◌≡◌, ◌+◌, ◌*◌, ◌<◌};
 ghost use Rattle.byte_runs.specs.Runs.{copied, filled_from};
 

@@ -1,9 +1,11 @@
 // The constituent encoder (clauses 4.4.2 and 4.4.3), and what each bit that six bit periods depend on gives by itself.
+#![tactic(auto)]
+
 ghost use Rattle.std.specs.Prelude.{◌≡◌};
 ghost use Rattle.constituent.specs.Six.{impulses};
 
 // The register of the constituent encoder (figure 5), of which the definitions speak.
-#[derive(Drop)]
+#[derive(Clone, Copy)]
 pub struct State {
     pub a1: u8,
     pub a2: u8,

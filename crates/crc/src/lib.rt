@@ -1,4 +1,6 @@
 // The CRC word of annex B over any run of bits of packed bytes.
+#![tactic(auto)]
+
 ghost use Rattle.std.specs.Prelude.{◌≡◌, ◌-◌, ◌*◌, ◌^◌, ◌≤◌, ◌<◌};
 ghost use Rattle.ground.specs.Table.{tab};
 ghost use Rattle.bits.specs.Places.{bit_at};

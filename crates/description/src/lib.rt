@@ -1,1 +1,3 @@
+#![tactic(auto)]
+
 // What a signalling word describes (clause 4.10): definitions and theorems, no code.

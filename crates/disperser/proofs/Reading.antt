@@ -1,9 +1,9 @@
 -- Reading a pipe's frame out of the ring, unit by unit.
 -- Assumes nothing.
 use Prim.Native.Nat.{ℕ, suc, ◌+◌, ◌-◌, ◌*◌, ◌/◌, ◌%◌, ◌≤◌, ◌<◌}
-use mathlib.Core.Path.{◌≡◌, sym, ap, ap₂, ◌∙◌, subst}
+use mathlib.Core.Path.{◌≡◌, sym, ap, ap₂, ◌∙◌}
 use mathlib.Core.List.{List}
-use native.Mathlib.Nat.{mod-lt, mul_assoc, add-mul, suc-mul, mul-le-mul_right, mod-eq_of_lt, zero-add, add_assoc}
+use native.Mathlib.Nat.{mod-lt, mul_assoc, add-mul, suc-mul, mul-le-mul_right, mod-eq_of_lt, zero-add}
 use native.Mathlib.Decide.{dec_lt}
 use native.Mathlib.Omega.{arith}
 use lib.ListN.{length, get_or, take, drop, length-drop}

@@ -1,4 +1,6 @@
 // Dispersers and collector (clauses 4.7 and 4.8): a pipe's frame, read out of the ring of the frames so far.
+#![tactic(auto)]
+
 ghost use Rattle.std.specs.Prelude.{◌≡◌, ◌+◌, ◌-◌, ◌%◌, ◌<◌, ◌≤◌};
 ghost use Rattle.ground.specs.Table.{tab};
 ghost use Rattle.slots.specs.Slots.{frame_bytes};

@@ -1,4 +1,6 @@
 // The OPL encapsulation of stream types 0, 1 and 2 (clauses 4.3.1 to 4.3.3): payload words, written.
+#![tactic(auto)]
+
 mod packet;
 mod transport;
 

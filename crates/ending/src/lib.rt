@@ -1,4 +1,6 @@
 // What ends every payload word, whatever its stream type (clause 4.3): the header's last 18 bits, the CRC over it and six spare bits.
+#![tactic(auto)]
+
 ghost use Rattle.std.specs.Prelude.{◌≡◌};
 ghost use Rattle.infoword.specs.Steps.{closing};
 

@@ -1,4 +1,6 @@
 // The tests 9, 10 and 11 of the lists that stand where a view says, in a word or in a sheet.
+#![tactic(auto)]
+
 ghost use Rattle.std.specs.Prelude.{◌≡◌, not, ◌%◌, eqb, ltb};
 ghost use Rattle.ground.specs.Choice.{both};
 ghost use Rattle.patterns.specs.Rates.{units_of};

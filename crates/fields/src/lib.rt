@@ -1,4 +1,6 @@
 // What is refused of a payload word (clause 4.3), and the form of what is reported of its header.
+#![tactic(auto)]
+
 ghost use Rattle.std.specs.Prelude.{◌≡◌, ◌≤◌, ◌<◌, eqb};
 ghost use Rattle.ground.specs.Choice.{choose};
 ghost use Rattle.bits.specs.Places.{field_at};
@@ -13,7 +15,7 @@ use infoword::{IP_STREAM, STREAM_TYPE};
 
 // What is reported of a word that is accepted: the fields of its header as they stand, which of its parity parts hold (bit k for part
 // k), and First_Header_Address, which is 0 for the stream types that have none.
-#[derive(Drop)]
+#[derive(Clone, Copy)]
 pub struct Header {
     pub rfu: u32,
     pub id: u8,

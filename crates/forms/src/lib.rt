@@ -1,4 +1,6 @@
 // Forms of a sheet (document 01): its records judged over counts that are given, and the whole judged over those that its header states.
+#![tactic(auto)]
+
 pub mod judge;
 
 ghost use Rattle.std.specs.Prelude.{◌≡◌};

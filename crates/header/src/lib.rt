@@ -1,4 +1,6 @@
 // The fields of a payload word's header (clause 4.3), as they are reported.
+#![tactic(auto)]
+
 ghost use Rattle.std.specs.Prelude.{◌≡◌};
 ghost use Rattle.infoword.specs.Suffix.{kind_of, rfu_of};
 ghost use Rattle.fields.specs.Report.{holding_of, header_of};

@@ -1,4 +1,6 @@
 // What is reported of a payload word, in the 16 bytes that are handed to C.
+#![tactic(auto)]
+
 ghost use Rattle.std.specs.Prelude.{◌≡◌, ◌++◌, ◌+◌, ◌≤◌, length, take, drop};
 ghost use Rattle.bits.specs.Lists.{bits, pack};
 ghost use Rattle.header_bytes.specs.Bytes.{header_put};

@@ -1,4 +1,6 @@
 // The header of a sheet (document 01, "Sheet"): written for counts that are given, and what it states, with its test.
+#![tactic(auto)]
+
 ghost use Rattle.std.specs.Prelude.{◌≡◌, ◌<◌};
 ghost use Rattle.description.specs.Sheet.{header};
 ghost use Rattle.description.specs.Header.{two_at, header_fault};

@@ -1,6 +1,6 @@
 -- Laws of clipping: what is clipped lies within -127 to 127, what lies there stays, and the negative is clipped to the negative. So also what a place holds.
 -- Assumes nothing.
-use Prim.Native.Nat.{ℕ, zero, suc, ◌<◌}
+use Prim.Native.Nat.{zero, suc, ◌<◌}
 use mathlib.Core.Path.{◌≡◌, refl, sym, ap, ◌∙◌}
 use mathlib.Core.Bool.{Bool, true, false}
 use mathlib.Core.List.{List, map}

@@ -1,4 +1,6 @@
 // What a place of the lane holds: the sum of its copies, clipped once (01, "Placement"; 02, 2026-08).
+#![tactic(auto)]
+
 ghost use Rattle.std.specs.Prelude.{◌≡◌, map, ◌+◌, ◌≤◌, ◌+ℤ◌, pos, get_or};
 ghost use Rattle.std.specs.Int.Signed.{mag};
 ghost use Rattle.held.specs.Held.{run, clip, held};

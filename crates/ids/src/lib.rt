@@ -1,4 +1,6 @@
 // The test 11: the ids of streams that stand at a place, in a word or in a sheet.
+#![tactic(auto)]
+
 ghost use Rattle.std.specs.Prelude.{◌≡◌};
 ghost use Rattle.bits.specs.Places.{fields_at};
 ghost use Rattle.description.specs.Tests.{id_fault};

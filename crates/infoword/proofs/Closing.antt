@@ -1,23 +1,16 @@
 -- Laws of which types have Parity_Parts, and of how far the CRC reaches.
 -- Assumes nothing.
-use Prim.Native.Nat.{ℕ, zero, suc, ◌+◌, ◌-◌, ◌*◌, ◌/◌, ◌%◌, ◌^◌, ◌≤◌, ◌<◌}
+use Prim.Native.Nat.{ℕ, zero, suc, ◌-◌, ◌≤◌}
 use mathlib.Core.Bool.{Bool, true, false}
-use mathlib.Core.Path.{◌≡◌, refl, sym, ap, ap₂, ◌∙◌}
-use mathlib.Core.List.{List, ◌++◌, append-nil, append_assoc}
+use mathlib.Core.Path.{◌≡◌, refl, sym, ap}
+use mathlib.Core.List.{List}
 use native.Mathlib.Omega.{arith}
-use borrow.Author.Tests.{eq-eqb, ne_eqb}
-use lib.ListN.{length, take, drop, length-append, drop_of_length-le}
-use lib.Seq.{take_at, length-take-le}
-use lib.Pow.{split}
+use borrow.Author.Tests.{ne_eqb}
 use Rattle.ground.specs.Table.{tab}
 use Rattle.ground.proofs.Choice.{choose_true, choose_false, skip}
-use Rattle.bits.specs.Lists.{bits, pack}
 use Rattle.bits.specs.Places.{bit_at}
-use Rattle.bits.proofs.Lists.{bits_high, pack_length}
-use Rattle.bits.proofs.Numbers.{bits_join}
 use Rattle.crc.specs.Crc.{crc8_of}
 use Rattle.infoword.specs.Suffix.{has_parity, kind_of, covered, covered_of, header_crc}
-use Rattle.infoword.specs.Steps.{sealed, closing}
 
 -- types 2 and 3 have Parity_Parts, and no other
 pub has_2 : (kind : ℕ) → kind ≡ 2 → has_parity kind ≡ true

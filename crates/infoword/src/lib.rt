@@ -1,4 +1,6 @@
 // Payload words, whatever their stream type (clause 4.3): where their fields stand, the size of their packets, and the CRC over the header.
+#![tactic(auto)]
+
 ghost use Rattle.std.specs.Prelude.{◌≡◌, ◌≤◌};
 ghost use Rattle.infoword.specs.Suffix.{has_parity, covered_of, header_crc};
 ghost use Rattle.infoword.specs.Word.{packet_bytes};

@@ -1,4 +1,6 @@
 // The header of a packet in an IP stream, two bytes (clause 4.3.4, table 6): where it fits, its error bit, and all of it as it is read.
+#![tactic(auto)]
+
 ghost use Rattle.std.specs.Prelude.{◌≡◌, ◌≤◌, ◌<◌, eqb, leb};
 ghost use Rattle.ground.specs.Choice.{choose, either};
 ghost use Rattle.ip.specs.Packet.{stuffing};
@@ -25,7 +27,7 @@ pub fn error_bit(error: u8) -> usize
 }
 
 // What the header of a packet says, two bytes (table 6): IP_Packet_Type, IP_Packet_Error and IP_Packet_Length. RFU is not looked at.
-#[derive(Drop)]
+#[derive(Clone, Copy)]
 pub struct Head {
     pub kind: u8,
     pub error: u8,

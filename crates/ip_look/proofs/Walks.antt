@@ -10,7 +10,7 @@ use lib.Dec.{eqb, ltb}
 use lib.ListN.{length, get_or, take, drop, length-drop, drop_of_length-le}
 use lib.Seq.{drop-drop}
 use borrow.Author.Tests.{eq-eqb, ne_eqb, lt-ltb, le-ltb, eqb-true}
-use Rattle.ground.specs.Choice.{choose, both, either, any}
+use Rattle.ground.specs.Choice.{choose, either, any}
 use Rattle.ground.proofs.Choice.{choose_true, choose_false, both_true}
 use Rattle.bits.specs.Lists.{bits, num, unpack}
 use Rattle.ip.specs.Packet.{Packet, kind_in, error_in, length_in, stuffing, faulty}

@@ -1,4 +1,6 @@
 // What is looked at of a word of an IP stream before anything is handed out of it (clause 4.3.4): whether it is refused, and with which number.
+#![tactic(auto)]
+
 mod looking;
 
 ghost use Rattle.std.specs.Prelude.{◌≡◌, eqb, length};

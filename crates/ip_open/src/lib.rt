@@ -1,4 +1,6 @@
 // The packet that is open in an IP stream, in the memory that a receiver lends from word to word: looked at, and dropped.
+#![tactic(auto)]
+
 ghost use Rattle.std.specs.Prelude.{◌≡◌, not, eqb, ltb};
 ghost use Rattle.ground.specs.Outcome.{Is};
 ghost use Rattle.ground.specs.Choice.{both};
@@ -11,7 +13,7 @@ use ground::LENGTH_WRONG;
 pub const ROOM: usize = 4104;
 
 // An open packet without its bytes; where none is open the numbers mean nothing.
-#[derive(Drop)]
+#[derive(Clone, Copy)]
 pub struct Opened {
     pub begun: bool,
     pub kind: u8,

@@ -1,5 +1,7 @@
 // The queue of packets that wait for an IP stream (clause 4.3.4), looked at before a word is written: each packet as four bytes (type; error;
 // length, two bytes) and its data, packet after packet.
+#![tactic(auto)]
+
 ghost use Rattle.std.specs.Prelude.{◌≡◌, ◌+◌, ◌<◌, ◌≤◌, length};
 ghost use Rattle.ip.specs.Memory.{unfit, queue_in};
 ghost use Rattle.ip.specs.Write.{to_come, address};
@@ -17,7 +19,7 @@ const NO_HEADER: u32 = 0xFFF;
 const LAST_HEADER: u32 = 1502;
 
 // What a word needs to know of the queue that it is to be filled from: why it is refused, and if it is not, First_Header_Address.
-#[derive(Drop)]
+#[derive(Clone, Copy)]
 pub struct Front {
     pub refusal: u8,
     pub address: u32,

@@ -1,4 +1,6 @@
 // Payload words of IP streams (clause 4.3.4), read: packets that end in a word are handed out, and the one that is open is kept.
+#![tactic(auto)]
+
 mod held;
 mod numbers;
 mod taking;

@@ -12,7 +12,7 @@ use ip_head::LAST_HEADER;
 use ip_open::Opened;
 
 // Where the walk over the headers stands, and how much is handed out.
-#[derive(Drop)]
+#[derive(Clone, Copy)]
 pub struct Place {
     pub at: usize,
     pub out: usize,

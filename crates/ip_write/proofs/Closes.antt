@@ -12,7 +12,6 @@ use Rattle.bits.specs.Lists.{bits, num, pack}
 use Rattle.bits.proofs.Lists.{bits_length, num_bits, pack_length, pack_append}
 use Rattle.bits.proofs.Numbers.{bits_join}
 use Rattle.parity.specs.Part.{parts_of}
-use Rattle.infoword.specs.Suffix.{header}
 use Rattle.infoword.specs.Word.{fields49, word_with, ip_word}
 use Rattle.infoword.specs.Steps.{parted, sealed, closing}
 use Rattle.infoword.proofs.Fields49.{fields49_length, parts_are}

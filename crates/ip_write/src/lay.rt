@@ -18,14 +18,14 @@ pub const PAYLOAD: usize = 1504;
 const HEADER: usize = 2;
 
 // Up to where the payload is laid, and up to where the queue is done with.
-#[derive(Drop)]
+#[derive(Clone, Copy)]
 struct Place {
     at: usize,
     from: usize,
 }
 
 // What a word leaves: how many bytes of the queue are done with, and how much is sent of the packet that is then first.
-#[derive(Drop)]
+#[derive(Clone, Copy)]
 pub struct Progress {
     pub done: u32,
     pub sent: u32,

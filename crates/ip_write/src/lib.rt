@@ -1,4 +1,6 @@
 // Payload words of IP streams (clause 4.3.4), written: packets that wait in a queue go into word after word.
+#![tactic(auto)]
+
 mod lay;
 
 ghost use Rattle.std.specs.Prelude.{◌≡◌, ◌++◌, ◌+◌, ◌<◌, length, take};

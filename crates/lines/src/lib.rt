@@ -1,4 +1,6 @@
 // The lines of an accepted sheet's listing (document 01, "Points on either side"), put into a buffer.
+#![tactic(auto)]
+
 ghost use Rattle.ground.specs.Outcome.{Is};
 ghost use Rattle.description.specs.Sheet.{form1};
 ghost use Rattle.views.specs.View.{sheet_view, lists_at};

@@ -1,4 +1,6 @@
 // The signalling word's block in the order in which encoder 2 reads it (clause 4.4.4), by the stored list of its addresses.
+#![tactic(auto)]
+
 mod eight;
 mod single;
 

@@ -1,20 +1,40 @@
 // The listing program: reads a sheet on standard input and prints its listing (document 01, "Points on either side").
-use libc::{STDIN_FILENO, STDOUT_FILENO};
+#![tactic(auto)]
+
+ghost use Rattle.std.specs.Prelude.{◌≤◌, length, IfOk};
+
+use std::io;
+use std::io::{Read, Write};
 use text::Listing;
 
-fn main() {
+// Reads until the room is full or the input ends, and says how many bytes stand in it then.
+fn read_full<R: Read>(input: &mut R, room: &mut [u8]) -> io::Result<usize>
+    ensures { IfOk result (λ n. n ≤ length room.new) }
+{
+    let mut done = 0;
+    while done < room.len() {
+        let n = input.read(&mut room[done..])?;
+        if n == 0 {
+            break;
+        }
+        done += n;
+    }
+    Ok(done)
+}
+
+fn main(rt: HostRuntime) -> io::Result<()> {
     // The longest sheet that a header can state has 2,571 bytes, and one whose length is not what its
     // header states is refused with 12. So of a longer input one byte more is enough to refuse it.
     let mut sheet = [0u8; 2572];
-    let n = io::read_full(STDIN_FILENO, &mut sheet);
+    let n = read_full(&mut rt.stdin(), &mut sheet)?;
     let mut out = [0u8; 1024];
     let answer = text::list(&sheet[..n], &mut out);
     let Listing::Text(length) = answer else {
         // A refused sheet: the text is the refusal number alone.
         if let Listing::Refused { number: _, n } = answer {
-            io::write_all(STDOUT_FILENO, &out[..n]);
+            rt.stdout().write_all(&out[..n])?;
         }
-        return;
+        return Ok(());
     };
-    io::write_all(STDOUT_FILENO, &out[..length]);
+    rt.stdout().write_all(&out[..length])
 }

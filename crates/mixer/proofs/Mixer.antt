@@ -1,11 +1,10 @@
 -- The mixer moves each bit of a codeword exactly once.
 -- Assumes nothing.
-use Prim.Native.Nat.{ℕ, zero, suc, ◌+◌, ◌*◌, ◌/◌, ◌%◌, ◌≤◌, ◌<◌}
-use mathlib.Core.Path.{◌≡◌, refl, sym, ap, ap₂, ◌∙◌, subst}
+use Prim.Native.Nat.{ℕ, ◌+◌, ◌*◌, ◌/◌, ◌%◌, ◌<◌}
+use mathlib.Core.Path.{◌≡◌, sym, ap, ◌∙◌, subst}
 use mathlib.Core.Bool.{Bool}
 use mathlib.Core.Logic.{⊎_elim}
 use native.Mathlib.Nat.{mod-lt, mod-eq_of_lt, div-add-mod', mul-add-mod_self_right, mul-add, mul_assoc, mul_comm, mul-one}
-use native.Mathlib.Omega.{arith}
 use lib.Dec.{T, eqb, ltb, eqb→eq, ltb→lt}
 use Rattle.ground.specs.Choice.{both}
 use Rattle.ground.specs.Table.{all_below}
@@ -13,7 +12,6 @@ use Rattle.ground.proofs.Choice.{both_left, both_right}
 use Rattle.ground.proofs.Table.{at_all}
 use Rattle.patterns.specs.Rates.{rates, rate_of}
 use Rattle.patterns.specs.Sent.{code_length}
-use Rattle.patterns.specs.Blocks.{Coded}
 use Rattle.ground.specs.Moves.{MovesOnce}
 use Rattle.mixer.specs.Mixer.{table12, column_of, increment, mixed_from}
 use Rattle.mixer.specs.Unmixer.{inverses, inverse}

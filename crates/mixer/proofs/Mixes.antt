@@ -1,16 +1,16 @@
 -- What the mixer's entry gives: its refusals, and the mixed codeword.
 -- Assumes nothing.
-use Prim.Native.Nat.{ℕ, zero, suc, ◌+◌, ◌*◌, ◌/◌, ◌%◌, ◌≤◌, ◌<◌}
+use Prim.Native.Nat.{ℕ, ◌/◌, ◌≤◌, ◌<◌}
 use mathlib.Core.Path.{◌≡◌, refl, sym, ap, ap₂, ◌∙◌, subst}
 use mathlib.Core.Bool.{Bool, true, false, not}
 use mathlib.Core.Logic.{⊎_elim, inl}
-use mathlib.Core.List.{List, [], ◌∷◌}
+use mathlib.Core.List.{List}
 use native.Mathlib.Omega.{arith}
 use borrow.Author.Tests.{ltb-false, eqb-true, eq-eqb, ne_eqb, lt-ltb, le-ltb}
-use lib.Dec.{T, eqb, ltb, leb, eqb→eq, ltb→lt, leb→le}
+use lib.Dec.{T, eqb, ltb, leb, ltb→lt, leb→le}
 use lib.ListN.{length}
 use Rattle.ground.specs.Outcome.{Is}
-use Rattle.ground.specs.Choice.{choose, both, refuse, first_of}
+use Rattle.ground.specs.Choice.{choose, both, first_of}
 use Rattle.ground.specs.Table.{all_below}
 use Rattle.ground.proofs.Choice.{choose_true, choose_false, both_left, both_right, past, no_difference}
 use Rattle.ground.proofs.Table.{at_all}

@@ -1,9 +1,9 @@
 -- Steps round a codeword: places that are added up are those of the rule.
 -- Assumes nothing.
-use Prim.Native.Nat.{ℕ, suc, ◌+◌, ◌-◌, ◌*◌, ◌/◌, ◌%◌, ◌≤◌, ◌<◌}
+use Prim.Native.Nat.{ℕ, ◌+◌, ◌-◌, ◌*◌, ◌%◌, ◌≤◌, ◌<◌}
 use mathlib.Core.Path.{◌≡◌, sym, ap, ap₂, ◌∙◌}
 use mathlib.Core.List.{List}
-use native.Mathlib.Nat.{mod-lt, mod-eq_of_lt, mod-add-mod, add-mod_right, mul-add, mul-suc, mul_comm, mul_assoc, add_assoc, mul-zero, add-zero}
+use native.Mathlib.Nat.{mod-eq_of_lt, mod-add-mod, add-mod_right, mul-add, mul-suc, mul_comm, add_assoc, mul-zero, add-zero}
 use native.Mathlib.Numerals.{add-one}
 use native.Mathlib.Omega.{arith}
 use Rattle.bits.specs.Places.{bit_at, number}

@@ -1,6 +1,6 @@
 -- The receiver's way back through the mixer: the bits of a mixed codeword in order again.
 -- Assumes nothing.
-use Rattle.std.specs.Prelude.{ℕ, ◌*◌, ◌/◌, ◌%◌, List, [], ◌∷◌, eqb}
+use Rattle.std.specs.Prelude.{ℕ, ◌/◌, List, [], ◌∷◌, eqb}
 use Rattle.ground.specs.Choice.{choose}
 use Rattle.bits.specs.Places.{bit_at, packed}
 use Rattle.patterns.specs.Rates.{over, rate_of}

@@ -1,4 +1,6 @@
 // The mixer (clause 4.5): it re-orders the bits of a codeword.
+#![tactic(auto)]
+
 ghost use Rattle.std.specs.Prelude.{◌≡◌, ◌+◌, ◌*◌, ◌/◌, ◌%◌, ◌<◌, ◌≤◌, length};
 ghost use Rattle.ground.specs.Outcome.{Is};
 ghost use Rattle.bits.specs.Places.{bit_at, number, packed};

@@ -1,6 +1,8 @@
 // The bits of a block, a byte to a bit, each with the bit half a segment on (clause 4.4.4). A segment is the addresses with the same five high bits, and its
 // size is the number of rows. Every entry of table 10 is odd, so where a row reads a place of a segment, the row half of all rows on reads the place half a
 // segment on: one read serves two rows.
+#![tactic(auto)]
+
 ghost use Rattle.std.specs.Prelude.{◌≡◌, ◌+◌, ◌*◌, ◌/◌, ◌%◌, ◌^◌, ◌<◌, ◌≤◌, length};
 ghost use Rattle.pairs.specs.Pairs.{pairs_of, unpacked};
 ghost use Rattle.pairs.specs.Inside.{Copied, spread, Spreads, Stored, Coupled};

@@ -1,4 +1,6 @@
 // The parity parts that are due to a payload word of MPEG-TS packets (clause 4.3.3).
+#![tactic(auto)]
+
 ghost use Rattle.std.specs.Prelude.{◌≡◌, ◌+◌, ◌<◌, get_or};
 ghost use Rattle.parity.specs.Part.{part_of, parts_of};
 ghost use Rattle.parity.specs.Steps.{byte_parts, run_of};

@@ -1,4 +1,6 @@
 // Which of the parity parts of a payload word hold (clause 4.3.3).
+#![tactic(auto)]
+
 ghost use Rattle.std.specs.Prelude.{◌≡◌, ◌*◌, ◌<◌, ◌≤◌};
 ghost use Rattle.ground.specs.Choice.{choose};
 ghost use Rattle.parity.specs.Part.{parity_holds, part_of, received, held_of};

@@ -1,4 +1,6 @@
 // Parity_Parts (table 4), written into a payload word: four numbers of 49 bits, through the sink.
+#![tactic(auto)]
+
 ghost use Rattle.std.specs.Prelude.{◌≡◌, ◌++◌, ◌+◌, ◌*◌, ◌^◌, ◌≤◌, ◌<◌, length};
 ghost use Rattle.bits.specs.Lists.{bits, pack, Below};
 ghost use Rattle.wide.specs.Held.{place_of, Put};

@@ -1,4 +1,6 @@
 // The puncturing patterns of the turbo code.
+#![tactic(auto)]
+
 ghost use Rattle.std.specs.Prelude.{◌≡◌, ltb};
 ghost use Rattle.ground.specs.Choice.{choose, first_of};
 ghost use Rattle.patterns.specs.Rates.{units_of};

@@ -1,4 +1,6 @@
 // Payload words of stream types 0 to 3 (clauses 4.3.1 to 4.3.4), read.
+#![tactic(auto)]
+
 ghost use Rattle.std.specs.Prelude.{◌≡◌};
 ghost use Rattle.ground.specs.Outcome.{Is};
 ghost use Rattle.bits.specs.Lists.{Below};
@@ -10,7 +12,7 @@ use header_bytes::HEADER;
 use infoword::STREAM_TYPE;
 
 // What reading a word gives: this, or the number of its refusal.
-#[derive(Drop)]
+#[derive(Clone, Copy)]
 pub enum Reading {
     Accepted(Header),
     Refused(u8),

@@ -1,7 +1,7 @@
 -- Accepted calls, one after the other, leave the frames of the pipe, and the receiver has the codewords back.
 -- Assumes nothing.
-use Prim.Native.Nat.{ℕ, zero, suc, ◌+◌, ◌-◌, ◌*◌, ◌/◌, ◌%◌, ◌≤◌, ◌<◌}
-use mathlib.Core.Path.{◌≡◌, refl, sym, ap, ap₂, ◌∙◌, subst}
+use Prim.Native.Nat.{ℕ, zero, suc, ◌-◌, ◌*◌, ◌/◌, ◌%◌, ◌≤◌, ◌<◌}
+use mathlib.Core.Path.{◌≡◌, sym, ap, ap₂, ◌∙◌, subst}
 use mathlib.Core.List.{List}
 use native.Mathlib.Nat.{le_refl}
 use native.Mathlib.Omega.{arith}
@@ -10,14 +10,14 @@ use lib.Dec.{leb}
 use lib.ListN.{length, replicate}
 use Rattle.ground.specs.Outcome.{Outcome, Is}
 use Rattle.ground.specs.Choice.{choose, first_of}
-use Rattle.ground.proofs.Choice.{choose_true, choose_ap}
+use Rattle.ground.proofs.Choice.{choose_true}
 use Rattle.bits.specs.Lists.{Below}
 use Rattle.slots.specs.declared.Way.{Way}
 use Rattle.slots.specs.Disperser.{tap_delay_rec, dispersed}
 use Rattle.slots.specs.Slots.{frame_bytes, unit_of, zero_unit, frame_units}
 use Rattle.slots.specs.Collector.{place_of, pipe_frame}
 use Rattle.slots.specs.Receiver.{uncollected, received_unit, received_frame}
-use Rattle.slots.specs.Ring.{depth, fresh, step, ring_at}
+use Rattle.slots.specs.Ring.{depth, step, ring_at}
 use Rattle.slots.proofs.Ring.{ring_right, only_remainder}
 use Rattle.slots.proofs.Units.{joined_cong}
 use Rattle.mixer.specs.Mixing.{codeword_bytes}

@@ -7,7 +7,7 @@ use mathlib.Core.List.{List}
 use native.Mathlib.Nat.{mod-lt, suc-mul, mul-le-mul, mul-le-mul_right, mul_assoc, div-add-mod', div-le_self}
 use native.Mathlib.Decide.{dec_lt}
 use native.Mathlib.Omega.{arith}
-use borrow.Author.Tests.{eqb-true, eq-eqb, ltb-false}
+use borrow.Author.Tests.{eqb-true, ltb-false}
 use lib.Dec.{T, eqb, ltb, leb, leb→le}
 use lib.ListN.{length}
 use lib.Seq.{paste, length-paste}
@@ -21,7 +21,7 @@ use Rattle.bits.specs.Places.{field_at}
 use Rattle.patterns.specs.Rates.{rates, rate_of, units_of}
 use Rattle.patterns.proofs.Rates.{units_some, units_none}
 use Rattle.description.proofs.Rows.{row_at_lem}
-use Rattle.description.specs.Fields.{table16, punct_pat, pipe_width, regrouping_flag}
+use Rattle.description.specs.Fields.{table16, pipe_width, regrouping_flag}
 use Rattle.views.specs.Rows.{row_from, row_at}
 use Rattle.records.specs.declared.Pipe.{Pipe}
 use Rattle.records.specs.Records.{pipe_of, pipe_at}

@@ -1,28 +1,21 @@
 -- Mixing a frame's codewords into the ring, one behind the other.
 -- Assumes nothing.
-use Prim.Native.Nat.{ℕ, suc, ◌+◌, ◌-◌, ◌*◌, ◌/◌, ◌≤◌, ◌<◌}
+use Prim.Native.Nat.{ℕ, suc, ◌+◌, ◌-◌, ◌*◌, ◌≤◌, ◌<◌}
 use mathlib.Core.Path.{◌≡◌, refl, sym, ap, ap₂, ◌∙◌, subst}
-use mathlib.Core.Bool.{Bool, true, false}
 use mathlib.Core.Logic.{inl}
 use mathlib.Core.List.{List, ◌++◌, append_assoc}
 use borrow.Rule.Slice.PartMut.{put_mid, Post-is}
 use native.Mathlib.Nat.{suc-mul, zero-mul, mul-le-mul, mul-le-mul_right, add_assoc}
 use native.Mathlib.Numerals.{add-one}
 use native.Mathlib.Omega.{arith}
-use borrow.Author.Tests.{eq-eqb}
-use lib.Dec.{eqb}
-use lib.ListN.{length, get_or, take, drop, length-drop}
+use lib.ListN.{length, take, drop, length-drop}
 use lib.Seq.{paste, paste-zero, length-paste, length_paste_head, ext_get_or, get_or-take, get_or-drop, length-take-le, take_all, take-add}
 use Rattle.ground.specs.Outcome.{Is}
-use Rattle.ground.proofs.Choice.{choose_true}
 use Rattle.ground.proofs.Copy.{paste_behind}
-use Rattle.patterns.specs.Sent.{code_length}
-use Rattle.patterns.specs.Blocks.{block_by, block_faults}
-use Rattle.patterns.proofs.Blocks.{coded_fit}
 use Rattle.slots.specs.Slots.{part, joined}
 use Rattle.slots.proofs.Units.{part_length, part_byte, part_joined, joined_length}
 use Rattle.mixer.specs.Mixer.{mixed}
-use Rattle.mixer.specs.Mixing.{codeword_bytes, block_of, mixing}
+use Rattle.mixer.specs.Mixing.{codeword_bytes, mixing}
 use Rattle.mixer.proofs.Mixes.{mix_is, bounds}
 use Rattle.mixer.proofs.Unmixes.{mixed_length}
 use Rattle.pipe.specs.Frame.{mixed_frame}

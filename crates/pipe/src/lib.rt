@@ -1,4 +1,6 @@
 // A pipe of one frame, ready for the modulator (clauses 4.5 to 4.8): its codewords mixed, dispersed and collected.
+#![tactic(auto)]
+
 ghost use Rattle.std.specs.Prelude.{◌≡◌, ◌*◌};
 ghost use Rattle.std.proofs.Math.Seq.{paste};
 ghost use Rattle.ground.specs.Outcome.{Is};

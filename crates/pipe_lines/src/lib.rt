@@ -1,5 +1,7 @@
 // The lines of payload pipes and of the tail in a sheet's listing (document 01, "Points on either side"), put into a buffer: each function returns the place
 // behind its text.
+#![tactic(auto)]
+
 ghost use Rattle.ground.specs.Outcome.{Is};
 ghost use Rattle.description.specs.Fields.{table16, table16b};
 ghost use Rattle.views.specs.Rows.{row_at, rows_at};

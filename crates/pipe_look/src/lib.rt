@@ -1,4 +1,6 @@
 // What is looked at before a frame of a pipe is made.
+#![tactic(auto)]
+
 ghost use Rattle.std.specs.Prelude.{◌≡◌};
 ghost use Rattle.ground.specs.Choice.{first_of};
 ghost use Rattle.pipe_look.specs.Faults.{frame_faults};

@@ -1,4 +1,6 @@
 // Placement: received values go to the places of the encoder's output from which they were sent (clauses 4.4.2 and 4.4.3).
+#![tactic(auto)]
+
 ghost use Rattle.std.specs.Prelude.{◌≡◌, [], ◌∷◌, ◌+◌, ◌*◌, ◌<◌, ◌≤◌, ◌+ℤ◌, length, take};
 ghost use Rattle.std.specs.Int.Signed.{mag};
 ghost use Rattle.ground.specs.Outcome.{Is};

@@ -1,4 +1,6 @@
 // The start-of-frame preamble (clause 4.10.1.2), upright or inverted, written; crate preamble_form tells the two from other bytes.
+#![tactic(auto)]
+
 pub mod sof;
 
 ghost use Rattle.ground.specs.Outcome.{Is};

@@ -1,4 +1,6 @@
 // Which of the two preambles (clause 4.10.1.2) bytes are, if any.
+#![tactic(auto)]
+
 ghost use Rattle.std.specs.Prelude.{◌≡◌, [], ◌∷◌, length};
 ghost use Rattle.ground.specs.Outcome.{Is};
 ghost use Rattle.preamble.specs.Preamble.{due};
@@ -10,7 +12,7 @@ use preamble::sof;
 use preamble::sof::PREAMBLE;
 
 // What 32 bytes are, or the number of the refusal of others.
-#[derive(Drop)]
+#[derive(Clone, Copy)]
 pub enum Form {
     Neither,
     Upright,

@@ -1,24 +1,22 @@
 -- The receiver's taps and ours add up to the greatest delay, which is at most 6,160.
 -- Assumes nothing.
-use Prim.Native.Nat.{ℕ, ◌+◌, ◌-◌, ◌*◌, ◌/◌, ◌%◌, ◌^◌, ◌≤◌, ◌<◌}
-use mathlib.Core.Path.{◌≡◌, refl, sym, ap, ◌∙◌}
+use Prim.Native.Nat.{ℕ, ◌+◌, ◌-◌, ◌*◌, ◌/◌, ◌%◌, ◌≤◌, ◌<◌}
+use mathlib.Core.Path.{◌≡◌, refl, ap, ◌∙◌}
 use mathlib.Core.Bool.{Bool, true, false}
 use mathlib.Core.List.{List}
 use native.Mathlib.Nat.{mod-lt, mul-le-mul, mul-le-mul_left, mul-le-mul_right, zero-add}
 use native.Mathlib.Omega.{arith}
 use lib.Dec.{eqb, eqb→eq}
-use lib.ListN.{length, get_or}
+use lib.ListN.{length}
 use Rattle.ground.specs.Choice.{choose}
 use Rattle.ground.specs.Moves.{MovesOnce}
-use Rattle.ground.specs.Table.{tab}
 use Rattle.ground.proofs.Choice.{choose_most}
 use Rattle.ground.proofs.Table.{get_or_tab, at_all}
-use Rattle.description.specs.Rows.{Each, Row}
+use Rattle.description.specs.Rows.{Row}
 use Rattle.description.proofs.Rows.{row_at_lem}
-use Rattle.description.specs.Description.{Pipe, own_sections}
-use Rattle.description.specs.Rules.{PipeKeeps}
-use Rattle.description.specs.Fields.{table16, table19, pipe_width, num_disperser_sections1, disperser_inv_flag, tap_diff_mult_int1, tap_diff_mult_fract116}
-use Rattle.slots.specs.Disperser.{tap_delay_rec, tap_delay}
+use Rattle.description.specs.Description.{own_sections}
+use Rattle.description.specs.Fields.{table16, pipe_width, num_disperser_sections1, disperser_inv_flag, tap_diff_mult_int1, tap_diff_mult_fract116}
+use Rattle.slots.specs.Disperser.{tap_delay_rec}
 use Rattle.slots.proofs.Delays.{delays_add}
 use Rattle.tap_lengths.specs.Lengths.{intermed_len}
 use Rattle.tap_lengths.proofs.Growing.{grows, intermed_most}

@@ -1,7 +1,7 @@
 -- What comes of a pipe as it is lent.
 -- Assumes nothing.
 use Prim.Native.Nat.{ℕ, zero, suc, ◌+◌, ◌*◌, ◌≤◌, ◌<◌}
-use mathlib.Core.Path.{◌≡◌, refl, sym, ap, ap₂, ◌∙◌, subst}
+use mathlib.Core.Path.{◌≡◌, refl, sym, ap, ◌∙◌, subst}
 use mathlib.Core.Bool.{Bool, false, true, not}
 use mathlib.Core.List.{List, [], ◌∷◌, ◌++◌}
 use native.Mathlib.Nat.{mod-eq_of_lt}
@@ -11,7 +11,7 @@ use lib.Dec.{eqb}
 use lib.ListN.{length, get_or, set, take, length-set, length-append, get_or-append}
 use lib.Seq.{ext_get_or, get_or-take, length-take-le, take_all, take-suc-set, get_or-append_seam}
 use Rattle.ground.specs.Outcome.{Is}
-use Rattle.ground.specs.Choice.{choose, either, first_of}
+use Rattle.ground.specs.Choice.{choose, first_of}
 use Rattle.ground.specs.Table.{tab}
 use Rattle.ground.proofs.Choice.{choose_true, choose_false, hit, skip, either_false, no_difference, past}
 use Rattle.ground.proofs.Table.{length_tab}

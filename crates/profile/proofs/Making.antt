@@ -1,16 +1,14 @@
 -- The lengths of a pipe as it is lent, as the code reads them.
 -- Assumes nothing.
-use Prim.Native.Nat.{ℕ, ◌+◌, ◌*◌, ◌/◌, ◌%◌, ◌≤◌, ◌<◌}
+use Prim.Native.Nat.{ℕ, ◌≤◌, ◌<◌}
 use mathlib.Core.Path.{◌≡◌, refl, sym, ap, ap₂, ◌∙◌, subst}
 use mathlib.Core.List.{List}
 use native.Mathlib.Nat.{zero-add}
-use native.Mathlib.Omega.{arith}
 use lib.ListN.{length, get_or}
 use Rattle.ground.specs.Table.{tab}
 use Rattle.ground.proofs.Table.{get_or_tab, tab_ext}
 use Rattle.bits.specs.Places.{field_at}
-use Rattle.bits.proofs.Places.{field_lt}
-use Rattle.description.specs.Fields.{table16, disperser_inv_flag, tap_diff_mult_int1, tap_diff_mult_fract116}
+use Rattle.description.specs.Fields.{disperser_inv_flag, tap_diff_mult_int1, tap_diff_mult_fract116}
 use Rattle.views.specs.Rows.{row_from, row_at}
 use Rattle.slots.specs.declared.Profile.{Profile}
 use Rattle.tap_lengths.specs.Lengths.{intermed_len}

@@ -1,6 +1,6 @@
 -- What is wanted of a profile: the propositions that are proved.
 -- Assumes nothing.
-use Rattle.std.specs.Prelude.{ℕ, ◌+◌, ◌-◌, ◌*◌, ◌/◌, ◌%◌, ◌≤◌, ◌<◌, ◌≡◌, false, List, length, get_or}
+use Rattle.std.specs.Prelude.{ℕ, ◌+◌, ◌*◌, ◌/◌, ◌%◌, ◌≤◌, ◌<◌, ◌≡◌, false, List, length, get_or}
 use Rattle.ground.specs.Moves.{MovesOnce}
 use Rattle.description.specs.Rows.{Each, Row}
 use Rattle.description.specs.Fields.{table16, table19, pipe_width}

@@ -1,4 +1,6 @@
 // The disperser's profile of a pipe (clause 4.10.7). The pipe is lent as its record of six bytes and its sections of two bytes each, as they stand in a sheet.
+#![tactic(auto)]
+
 ghost use Rattle.std.specs.Prelude.{◌≡◌, ◌≤◌, ◌<◌, length};
 ghost use Rattle.ground.specs.Outcome.{Is};
 ghost use Rattle.tap_lengths.specs.Sections.{sections_at};
@@ -21,7 +23,7 @@ const NUMBERS: usize = 33;
 
 // What comes of a pipe: its refusal, 0 for none, and its profile, all zeros where it is refused.
 #[repr(C)]
-#[derive(Drop)]
+#[derive(Clone, Copy)]
 pub struct Profiled {
     pub refusal: u8,
     pub profile: Profile,

@@ -1,4 +1,6 @@
 // The puncturing rows (tables 7 and 8).
+#![tactic(auto)]
+
 ghost use Rattle.std.specs.Prelude.{◌≡◌, ◌<◌};
 ghost use Rattle.patterns.specs.Rows.{digit};
 ghost use Rattle.puncturing.specs.Entries.{entries};

@@ -1,10 +1,12 @@
 // What stands in a record of a word or of a sheet: the fields that the library looks at, by their places in the standard's tables. Past the end they are zero.
+#![tactic(auto)]
+
 ghost use Rattle.std.specs.Prelude.{◌≡◌, ◌+◌, ◌<◌, eqb};
 ghost use Rattle.ground.specs.Choice.{choose};
 ghost use Rattle.records.specs.Records.{multiplex_at, pipe_at, tail_at};
 
 // Of the multiplex: Sig_Pipe_Ver, Operator_ID, Frame_Index and Num_Pipes_1 (table 15).
-#[derive(Drop)]
+#[derive(Clone, Copy)]
 pub struct Multiplex {
     pub version: u32,
     pub operator: u32,
@@ -13,7 +15,7 @@ pub struct Multiplex {
 }
 
 // Of a payload pipe: Punct_Pat_ID and Pipe_Width_CUs (table 16), and the streams and the sections that it owns (clauses 4.10.3 and 4.10.7).
-#[derive(Drop)]
+#[derive(Clone, Copy)]
 pub struct Pipe {
     pub pattern: u32,
     pub width: u32,

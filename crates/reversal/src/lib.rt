@@ -1,4 +1,6 @@
 // The low bits of the counter, reversed (clause 4.4.4).
+#![tactic(auto)]
+
 ghost use Rattle.std.specs.Prelude.{◌≡◌};
 ghost use Rattle.order.specs.Order.{reversed};
 

@@ -1,5 +1,7 @@
 // A row of the order (clause 4.4.4) of a block in pairs: 24 places, read six at a time. A pair's second bit is read half of all rows on, so that a row's pairs spell
 // that row too.
+#![tactic(auto)]
+
 ghost use Rattle.std.specs.Prelude.{◌≡◌, [], ◌∷◌, ◌+◌, ◌<◌};
 ghost use Rattle.bits.specs.Places.{number};
 ghost use Rattle.rows.specs.Spelt.{digits, twice, rows_of};

@@ -6,7 +6,7 @@ use records::{pipe_at, tail_at};
 use views::View;
 
 // Streams and sections.
-#[derive(Drop)]
+#[derive(Clone, Copy)]
 pub struct Share {
     pub s: u16,
     pub d: u16,
@@ -39,7 +39,7 @@ pub fn tail_owned_at(w: &[u8], at: u32) -> u16
 }
 
 // Where the record, the streams and the sections of a pipe stand.
-#[derive(Drop)]
+#[derive(Clone, Copy)]
 pub struct Places {
     pub pipe: usize,
     pub streams: usize,

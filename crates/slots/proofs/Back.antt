@@ -1,7 +1,7 @@
 -- The receiver's way back: at frame f come the mixed codewords of frame f - greatest.
 -- Assumes nothing.
-use Prim.Native.Nat.{ℕ, zero, suc, ◌+◌, ◌-◌, ◌*◌, ◌/◌, ◌%◌, ◌≤◌, ◌<◌}
-use mathlib.Core.Path.{◌≡◌, refl, sym, ap, ap₂, ◌∙◌, subst}
+use Prim.Native.Nat.{ℕ, ◌+◌, ◌-◌, ◌*◌, ◌/◌, ◌%◌, ◌<◌}
+use mathlib.Core.Path.{◌≡◌, sym, ap, ap₂, ◌∙◌}
 use mathlib.Core.Bool.{Bool, true, false}
 use mathlib.Core.List.{List}
 use native.Mathlib.Nat.{div-add-mod'}
@@ -14,7 +14,7 @@ use Rattle.ground.specs.Choice.{choose}
 use Rattle.ground.proofs.Choice.{choose_true, choose_false}
 use Rattle.slots.specs.declared.Way.{Way}
 use Rattle.slots.specs.Disperser.{tap_delay, tap_delay_rec, dispersed}
-use Rattle.slots.specs.Slots.{frame_units, frame_bytes, unit_of, zero_unit, joined, fed_to}
+use Rattle.slots.specs.Slots.{frame_units, frame_bytes, unit_of, zero_unit, fed_to}
 use Rattle.slots.specs.Collector.{place_of, slot_at, unit_at, pipe_unit, pipe_frame}
 use Rattle.slots.specs.Receiver.{uncollected, received_unit, received_frame}
 use Rattle.slots.specs.Wanted.{Framed, Within, ComesBack}

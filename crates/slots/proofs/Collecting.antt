@@ -1,19 +1,18 @@
 -- The unit that the collector reads for a place, as one number.
 -- Assumes nothing.
 use Prim.Native.Nat.{ℕ, ◌+◌, ◌*◌, ◌/◌, ◌%◌, ◌≤◌, ◌<◌}
-use mathlib.Core.Path.{◌≡◌, refl, sym, ap, ◌∙◌, subst}
+use mathlib.Core.Path.{◌≡◌, refl, sym, ◌∙◌, subst}
 use mathlib.Core.Bool.{Bool, true, false}
-use mathlib.Core.List.{List}
 use native.Mathlib.Nat.{mod-lt, div-add-mod', div-le_self, mul-le-mul}
 use native.Mathlib.Omega.{arith}
 use borrow.Author.Tests.{eq-eqb, ne_eqb}
 use lib.Dec.{eqb}
-use Rattle.ground.specs.Choice.{choose, either}
+use Rattle.ground.specs.Choice.{choose}
 use Rattle.ground.proofs.Choice.{choose_true, choose_false, hit, skip}
 use Rattle.slots.specs.declared.Way.{Way}
 use Rattle.slots.specs.Slots.{frame_units}
 use Rattle.slots.specs.Collector.{slot_at, unit_at, unit_for}
-use Rattle.slots.proofs.Places.{some, in_table, across}
+use Rattle.slots.proofs.Places.{in_table, across}
 use Rattle.slots.proofs.Collector.{collected_once}
 
 module _ (regrouping slots units place : ℕ) where

@@ -1,15 +1,13 @@
 -- The collector moves each unit of a frame exactly once, in either mode.
 -- Assumes nothing.
-use Prim.Native.Nat.{ℕ, zero, suc, ◌+◌, ◌*◌, ◌/◌, ◌%◌, ◌<◌}
-use mathlib.Core.Path.{◌≡◌, refl, sym, ap, ◌∙◌, subst}
+use Prim.Native.Nat.{ℕ, ◌+◌, ◌*◌, ◌/◌, ◌%◌, ◌<◌}
+use mathlib.Core.Path.{◌≡◌}
 use mathlib.Core.Bool.{Bool, true, false}
 use native.Mathlib.Nat.{div-add-mod'}
 use lib.Dec.{eqb}
 use Rattle.ground.specs.Choice.{choose}
-use Rattle.slots.specs.declared.Way.{Way}
-use Rattle.slots.specs.Slots.{frame_units}
 use Rattle.slots.specs.Collector.{place_of, slot_at, unit_at}
-use Rattle.slots.specs.Wanted.{Collected, CollectedOnce}
+use Rattle.slots.specs.Wanted.{CollectedOnce}
 use Rattle.slots.proofs.Places.{col_of, row_of, in_table, col_in, row_in, turn}
 
 module _ (m n : ℕ) where

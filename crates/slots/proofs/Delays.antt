@@ -1,6 +1,6 @@
 -- Our delay of a unit and the receiver's add up to the greatest.
 -- Assumes nothing.
-use Prim.Native.Nat.{ℕ, ◌+◌, ◌-◌, ◌≤◌}
+use Prim.Native.Nat.{ℕ, ◌+◌, ◌≤◌}
 use mathlib.Core.Path.{◌≡◌}
 use native.Mathlib.Omega.{arith}
 use Rattle.slots.specs.declared.Profile.{Profile}

@@ -1,15 +1,15 @@
 -- The ring: frames that go through it one after the other come out as the definition over all frames so far says.
 -- Assumes nothing.
 use Prim.Native.Nat.{ℕ, zero, suc, ◌+◌, ◌-◌, ◌*◌, ◌/◌, ◌%◌, ◌≤◌, ◌<◌}
-use mathlib.Core.Path.{◌≡◌, refl, sym, ap, ap₂, ◌∙◌, subst}
-use mathlib.Core.Bool.{Bool, true, false}
+use mathlib.Core.Path.{◌≡◌, sym, ap, ap₂, ◌∙◌, subst}
+use mathlib.Core.Bool.{Bool}
 use mathlib.Core.List.{List, ◌++◌}
-use native.Mathlib.Nat.{mod-lt, suc-mul, mul-le-mul_right, add-mod_right, mod-add-mod, not-suc-le-zero, zero-add, sub-zero, le_refl}
+use native.Mathlib.Nat.{mod-lt, suc-mul, mul-le-mul_right, add-mod_right, mod-add-mod, zero-add, sub-zero, le_refl}
 use native.Mathlib.Decide.{dec_lt}
 use native.Mathlib.Omega.{arith}
 use borrow.Author.Tests.{le-leb, lt-leb}
 use lib.Dec.{leb, leb-suc-suc}
-use lib.ListN.{length, get_or, replicate, take, drop, length-replicate, get_or-replicate, get_or-append}
+use lib.ListN.{length, get_or, take, drop, length-replicate, get_or-replicate, get_or-append}
 use lib.Seq.{paste, length-paste, length_paste_head, get_or-take, get_or-drop, get_or-append-add, length-take-le}
 use Rattle.ground.specs.Choice.{choose}
 use Rattle.ground.specs.Table.{tab}
@@ -20,7 +20,7 @@ use Rattle.slots.specs.Disperser.{tap_delay, dispersed}
 use Rattle.slots.specs.Slots.{frame_units, frame_bytes, unit_of, zero_unit, joined, fed_to}
 use Rattle.slots.specs.Collector.{slot_at, unit_at, pipe_unit, pipe_frame}
 use Rattle.slots.specs.Ring.{depth, fresh, taken, row_back, source, byte_from, step, ring_at}
-use Rattle.slots.specs.Wanted.{Framed, RingRight, OnlyRemainder}
+use Rattle.slots.specs.Wanted.{RingRight, OnlyRemainder}
 use Rattle.slots.proofs.Places.{in_table, row_in, apart}
 use Rattle.slots.proofs.Collector.{collected_once}
 use Rattle.slots.proofs.Units.{part_byte}

@@ -1,15 +1,13 @@
 -- Laws of parts: bytes cut into parts of a size and joined again. A unit is a part of 64 bytes, a codeword one of its own length.
 -- Assumes nothing.
-use Prim.Native.Nat.{ℕ, zero, suc, ◌+◌, ◌-◌, ◌*◌, ◌/◌, ◌%◌, ◌≤◌, ◌<◌}
+use Prim.Native.Nat.{ℕ, ◌+◌, ◌*◌, ◌/◌, ◌%◌, ◌<◌}
 use mathlib.Core.Path.{◌≡◌, refl, sym, ap, ap₂, ◌∙◌, subst}
 use mathlib.Core.Bool.{Bool, true, false}
 use mathlib.Core.List.{List}
 use native.Mathlib.Nat.{zero-add, div-add-mod'}
-use native.Mathlib.Omega.{arith}
 use lib.ListN.{length, get_or, replicate, length-replicate, get_or-replicate}
 use lib.Seq.{ext_get_or}
 use Rattle.ground.specs.Choice.{choose}
-use Rattle.ground.specs.Table.{tab}
 use Rattle.ground.proofs.Table.{length_tab, get_or_tab, tab_cong}
 use Rattle.slots.specs.Slots.{part, joined}
 use Rattle.slots.proofs.Places.{row_of, col_of, in_table, row_in, col_in}

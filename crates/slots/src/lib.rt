@@ -1,4 +1,6 @@
 // Slots, taps and collector (clauses 4.6 to 4.8): which unit of which frame stands where in a pipe.
+#![tactic(auto)]
+
 ghost use Rattle.std.specs.Prelude.{◌≡◌};
 ghost use Rattle.ground.specs.Table.{tab};
 ghost use Rattle.slots.specs.Disperser.{tap_delay};
@@ -6,7 +8,7 @@ ghost use Rattle.slots.specs.Collector.{unit_for};
 
 // The receiver's 32 tap lengths, with the greatest delay beside them.
 #[repr(C)]
-#[derive(Drop)]
+#[derive(Clone, Copy)]
 pub struct Profile {
     pub taps: [u16; 32],
     pub greatest: u16,
@@ -14,7 +16,7 @@ pub struct Profile {
 
 // What a pipe's frames are made by: the profile, Regrouping_Flag, Pipe_Width_Slots and IU_Per_CW.
 #[repr(C)]
-#[derive(Drop)]
+#[derive(Clone, Copy)]
 pub struct Way {
     pub profile: Profile,
     pub regrouping: u8,

@@ -1,5 +1,7 @@
 // The steps of a walk over a word, on a slice and on numbers: the reader's methods only take it apart. Each is total; the counts of a word are far below where
 // one wraps.
+#![tactic(auto)]
+
 ghost use Rattle.std.specs.Prelude.{◌≡◌, ◌%◌};
 ghost use Rattle.bits.specs.Places.{field_at};
 ghost use Rattle.sheets.specs.Owned.{owned_at};

@@ -1,4 +1,6 @@
 // The survey of a signalling word: all its tests, in the reader's order: 1 2 5 6 7 8 9 10 11.
+#![tactic(auto)]
+
 ghost use Rattle.std.specs.Prelude.{◌≡◌, ◌*◌, ◌≤◌, ◌<◌, length};
 ghost use Rattle.std.proofs.Math.Seq.{slice};
 ghost use Rattle.bits.specs.Lists.{unpack};

@@ -1,4 +1,6 @@
 // The tables of a pattern: what is sent of six bit periods, by the six bits of each encoder and by the registers.
+#![tactic(auto)]
+
 mod look;
 mod weights;
 
@@ -7,7 +9,7 @@ ghost use Rattle.tables.specs.Plan.{plan_of};
 
 // A pattern's tables, and how many bits it sends of the six groups of each half.
 // The half h has its tables from 192 h on: 64 entries by the registers, 64 by the six bits of encoder 2, 64 by those of encoder 1.
-#[derive(Drop)]
+#[derive(Clone, Copy)]
 pub struct Plan {
     pub look: [u64; 384],
     pub k0: usize,

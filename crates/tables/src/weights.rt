@@ -5,7 +5,7 @@ ghost use Rattle.tables.specs.Plan.{half_at};
 ghost use Rattle.tables.specs.Tables.{HalfOf, Light};
 
 // Of a half of twelve groups, with the registers' six bits behind: what each place weighs, and how many bits there are.
-#[derive(Drop)]
+#[derive(Clone, Copy)]
 pub struct Half {
     pub weights: [u64; 36],
     pub bits: usize,

@@ -1,4 +1,6 @@
 // The tail (clause 4.4.3): three clocks of each encoder, and what is sent of their symbols.
+#![tactic(auto)]
+
 ghost use Rattle.std.specs.Prelude.{◌≡◌, ◌+◌, ◌-◌, ◌*◌, ◌%◌, ◌^◌, ◌<◌, ◌≤◌};
 ghost use Rattle.tail.specs.Tail.{run_of};
 ghost use Rattle.tail.specs.Inside.{tails};
@@ -36,7 +38,7 @@ fn wide(x: u16) -> u64
 }
 
 // Bits that are sent together, as a number, and how many there are.
-#[derive(Drop)]
+#[derive(Clone, Copy)]
 pub struct Run {
     pub value: u64,
     pub bits: usize,

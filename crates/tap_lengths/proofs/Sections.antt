@@ -7,8 +7,7 @@ use native.Mathlib.Nat.{add-zero}
 use native.Mathlib.Omega.{arith}
 use Rattle.bits.specs.Places.{field_at}
 use Rattle.bits.proofs.Places.{field_lt}
-use Rattle.description.specs.Fields.{table19, tap_diff, gap_width}
-use Rattle.description.specs.Rules.{taps}
+use Rattle.description.specs.Fields.{table19}
 use Rattle.description.specs.Rows.{Row}
 use Rattle.views.specs.Rows.{row_from, row_at}
 use Rattle.tap_lengths.specs.declared.Section.{Section}

@@ -8,13 +8,13 @@ use native.Mathlib.Numerals.{add-one}
 use native.Mathlib.Decide.{dec_lt, dec_le}
 use native.Mathlib.Omega.{arith}
 use borrow.Author.Tests.{lt-ltb, le-ltb, le-leb, lt-leb}
-use lib.Dec.{ltb, leb}
+use lib.Dec.{ltb}
 use lib.ListN.{length, get_or, drop, replicate}
 use lib.Seq.{drop-cons, drop-length}
 use Rattle.ground.specs.Choice.{choose}
 use Rattle.ground.specs.Table.{tab}
 use Rattle.ground.proofs.Choice.{choose_true, choose_false}
-use Rattle.description.specs.Fields.{tap_diff, gap_width, table19}
+use Rattle.description.specs.Fields.{tap_diff, table19}
 use Rattle.description.specs.Rules.{taps}
 use Rattle.description.proofs.Rows.{row_at_lem}
 use Rattle.views.specs.Rows.{row_at, rows_at}

@@ -1,5 +1,7 @@
 // The taps of a pipe's disperser sections (table 19), and their intermediate lengths (clause 4.10.7).
 // A pipe is lent as its record of six bytes and its sections of two bytes each, as they stand in a sheet.
+#![tactic(auto)]
+
 ghost use Rattle.std.specs.Prelude.{◌≡◌, ◌≤◌};
 ghost use Rattle.ground.specs.Table.{tab};
 ghost use Rattle.tap_lengths.specs.Lengths.{tap_total, intermed_len};
@@ -12,7 +14,7 @@ const SECTIONS: usize = 52;
 const APART: usize = 16;
 
 // Num_Taps, Tap_Diff and Gap_Width of a section.
-#[derive(Drop)]
+#[derive(Clone, Copy)]
 pub struct Section {
     pub taps: u8,
     pub diff: u8,
@@ -20,7 +22,7 @@ pub struct Section {
 }
 
 // A tap on the way through the sections: its length, the taps left in its section with itself, their difference, and the next section.
-#[derive(Drop)]
+#[derive(Clone, Copy)]
 pub struct Tap {
     pub len: u16,
     pub left: u8,

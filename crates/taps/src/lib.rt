@@ -1,4 +1,6 @@
 // The test 10: the taps of payload pipes, whose sections stand where a view says, in a word or in a sheet.
+#![tactic(auto)]
+
 ghost use Rattle.std.specs.Prelude.{◌≡◌, not, ◌≤◌, ◌<◌, eqb};
 ghost use Rattle.ground.specs.Choice.{both};
 ghost use Rattle.bits.specs.Places.{fields_at};

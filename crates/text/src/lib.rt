@@ -1,4 +1,6 @@
 // The listing of a sheet (document 01, "Points on either side"), as text.
+#![tactic(auto)]
+
 ghost use Rattle.std.specs.Prelude.{◌≡◌};
 ghost use Rattle.ground.specs.Outcome.{Is};
 ghost use Rattle.bits.specs.Lists.{Below};
@@ -8,7 +10,7 @@ ghost use Rattle.text.specs.Answers.{told, listed};
 use sheets::answer::Answer;
 
 // What listing a sheet gives: the length of its text; the refusal number, and the length of the text that says it; or that there is no room.
-#[derive(Drop)]
+#[derive(Clone, Copy)]
 pub enum Listing {
     Text(usize),
     Refused { number: u8, n: usize },

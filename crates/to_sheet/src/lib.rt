@@ -1,4 +1,6 @@
 // From signalling word to sheet (clause 4.10).
+#![tactic(auto)]
+
 mod fill;
 
 ghost use Rattle.ground.specs.Outcome.{Is};

@@ -1,4 +1,6 @@
 // From sheet to signalling word (clause 4.10).
+#![tactic(auto)]
+
 mod lay;
 
 ghost use Rattle.ground.specs.Outcome.{Is};

@@ -1,4 +1,6 @@
 // The turbo encoder (clauses 4.4.2 to 4.4.5).
+#![tactic(auto)]
+
 mod stream;
 
 ghost use Rattle.std.specs.Prelude.{◌≡◌, ◌≤◌};

@@ -11,7 +11,7 @@ ghost use Rattle.turbo.specs.Stream.{code_bit, chunked, thrice, Prepared, Sent};
 use wide::Wide;
 
 // The sink, and the registers of both encoders in one number.
-#[derive(Drop)]
+#[derive(Clone, Copy)]
 pub struct Coder {
     pub sink: Wide,
     pub both: usize,

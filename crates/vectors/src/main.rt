@@ -1,7 +1,9 @@
 // Codes a word under each pattern, and prints of each codeword its length in bytes, its first and last eight bytes and
 // its CRC-12. What it must print, the file stdout, is from the second implementation: `cargo run --release --bin vectors`
 // in compare/.
-use libc::STDOUT_FILENO;
+#![tactic(auto)]
+
+use std::io;
 
 // The number after x in a sequence (xorshift).
 fn next(x: u32) -> u32 {
@@ -34,75 +36,72 @@ fn clear_spare(word: &mut [u8]) {
     }
 }
 
-fn print_number(name: &[u8], n: u64) {
-    io::write_all(STDOUT_FILENO, name);
-    io::print_decimal(STDOUT_FILENO, n);
+fn print_number(rt: &impl Print, name: &str, n: u64) -> io::Result<()> {
+    print!(rt; "{name}{n}")
 }
 
 // Eight bytes in hex, by two places of 32 bits.
-fn print_bytes(name: &[u8], codeword: &[u8], one: usize, two: usize) {
-    io::write_all(STDOUT_FILENO, name);
-    io::print_hex(STDOUT_FILENO, bits::field(codeword, one, 32) as u64, 8);
-    io::print_hex(STDOUT_FILENO, bits::field(codeword, two, 32) as u64, 8);
+fn print_bytes(rt: &impl Print, name: &str, codeword: &[u8], one: usize, two: usize) -> io::Result<()> {
+    let first = bits::field(codeword, one, 32);
+    let second = bits::field(codeword, two, 32);
+    print!(rt; "{name}{first:08x}{second:08x}")
 }
 
 // The line of a codeword of eight to 7,680 bytes.
-fn print_line(block: usize, pattern: u32, codeword: &[u8]) {
+fn print_line(rt: &impl Print, block: usize, pattern: u32, codeword: &[u8]) -> io::Result<()> {
     let n = codeword.len();
     if n < 8 {
-        return;
+        return Ok(());
     }
     if 7680 < n {
-        return;
+        return Ok(());
     }
-    print_number(b"block ", block as u64);
-    print_number(b" pattern ", pattern as u64);
-    print_number(b" bytes ", n as u64);
-    print_bytes(b" first ", codeword, 0, 32);
-    print_bytes(b" last ", codeword, 8 * n - 64, 8 * n - 32);
-    io::write_all(STDOUT_FILENO, b" crc12 ");
-    io::print_hex(STDOUT_FILENO, crc::crc12(codeword, 0, 8 * n) as u64, 3);
-    io::write_all(STDOUT_FILENO, b"\n");
+    print_number(rt, "block ", block as u64)?;
+    print_number(rt, " pattern ", pattern as u64)?;
+    print_number(rt, " bytes ", n as u64)?;
+    print_bytes(rt, " first ", codeword, 0, 32)?;
+    print_bytes(rt, " last ", codeword, 8 * n - 64, 8 * n - 32)?;
+    let crc12 = crc::crc12(codeword, 0, 8 * n);
+    println!(rt; " crc12 {crc12:03x}")
 }
 
 // Codes a word under a pattern, and prints the line of the codeword, or the number of the refusal.
-fn print_coded(block: usize, pattern: u32, word: &[u8], codeword: &mut [u8]) {
+fn print_coded(rt: &impl Print, block: usize, pattern: u32, word: &[u8], codeword: &mut [u8]) -> io::Result<()> {
     let refusal = turbo::encode(pattern, word, codeword);
     if refusal != 0 {
-        print_number(b"refused ", refusal as u64);
-        io::write_all(STDOUT_FILENO, b"\n");
-        return;
+        return println!(rt; "refused {refusal}");
     }
-    print_line(block, pattern, codeword);
+    print_line(rt, block, pattern, codeword)
 }
 
 // The case of a word and a pattern, in as many bytes as the codeword has.
-fn print_case(pattern: u32, word: &[u8]) {
+fn print_case(rt: &impl Print, pattern: u32, word: &[u8]) -> io::Result<()> {
     let block = patterns::block_by(1536, 96, word.len());
     let n = patterns::code_length(pattern as usize, block) / 8;
     if 7680 < n {
-        return;
+        return Ok(());
     }
     let mut room = [0u8; 7680];
-    print_coded(block, pattern, word, &mut room[..n]);
+    print_coded(rt, block, pattern, word, &mut room[..n])
 }
 
 // The cases of a word under each pattern.
-fn print_cases(word: &[u8]) {
+fn print_cases(rt: &impl Print, word: &[u8]) -> io::Result<()> {
     let mut pattern = 0;
     while pattern < 28 {
-        print_case(pattern, word);
+        print_case(rt, pattern, word)?;
         pattern += 1;
     }
+    Ok(())
 }
 
-fn main() {
+fn main(rt: HostRuntime) -> io::Result<()> {
     let mut payload = [0u8; 1536];
     fill(&mut payload);
     clear_spare(&mut payload);
-    print_cases(&payload);
+    print_cases(&rt, &payload)?;
     let mut signalling = [0u8; 96];
     fill(&mut signalling);
     clear_spare(&mut signalling);
-    print_case(0, &signalling);
+    print_case(&rt, 0, &signalling)
 }

@@ -1,4 +1,6 @@
 // Where the records of a signalling word and of a sheet stand, in bits (table 14 for a word, document 01 for a sheet). No other code knows a place.
+#![tactic(auto)]
+
 ghost use Rattle.std.specs.Prelude.{◌≡◌};
 ghost use Rattle.description.specs.Rules.{size};
 ghost use Rattle.views.specs.View.{word_view, sheet_view};
@@ -21,7 +23,7 @@ pub const ABOVE: u32 = 4;
 pub const FORM1: u8 = 12;
 
 // The first bit of each list, and how far apart sections are.
-#[derive(Drop)]
+#[derive(Clone, Copy)]
 pub struct View {
     pub multiplex: u32,
     pub tail: u32,

@@ -1,9 +1,9 @@
 -- What the walk finds, call after call, is what stands in the word: its counts are small, so that nothing it adds up wraps.
 -- Assumes nothing.
-use Prim.Native.Nat.{ℕ, ◌+◌, ◌*◌, ◌%◌, ◌^◌, ◌≤◌, ◌<◌}
+use Prim.Native.Nat.{ℕ, ◌+◌, ◌*◌, ◌%◌, ◌≤◌, ◌<◌}
 use mathlib.Core.Path.{◌≡◌, refl, ap, ap₂, ◌∙◌, subst}
 use mathlib.Core.List.{List}
-use native.Mathlib.Nat.{mul-le-mul, mod-eq_of_lt}
+use native.Mathlib.Nat.{mod-eq_of_lt}
 use native.Mathlib.Omega.{arith}
 use Rattle.bits.specs.Places.{field_at}
 use Rattle.bits.proofs.Places.{field_lt}

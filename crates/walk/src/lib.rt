@@ -1,4 +1,6 @@
 // The walk over the bits of a lent word: one reader that carries the word and its place, made once, and moved on from list to list.
+#![tactic(auto)]
+
 mod plain;
 mod reader;
 
@@ -11,7 +13,7 @@ use steps::with_tail;
 use views::{PIPE, SECTION, STREAM, TAIL};
 
 // What a walk finds: Sig_Pipe_Ver, the payload pipes, the streams and the sections of a word, and the bit behind its lists.
-#[derive(Drop)]
+#[derive(Clone, Copy)]
 pub struct Toured {
     pub version: u32,
     pub p: u8,

@@ -6,7 +6,7 @@ ghost use Rattle.steps.specs.Steps.{onward};
 
 use sheets::owned::Share;
 
-#[derive(Drop)]
+#[derive(Clone, Copy)]
 pub struct Reader<'a> {
     pub word: &'a [u8],
     pub at: u32,

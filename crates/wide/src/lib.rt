@@ -1,10 +1,12 @@
 // The wide sink: up to 32 bits go in at once, and four bytes are stored at a time.
+#![tactic(auto)]
+
 ghost use Rattle.std.specs.Prelude.{◌≡◌, ◌+◌, ◌≤◌, length};
 ghost use Rattle.wide.specs.Wide.{stored, wider};
 ghost use Rattle.ground.specs.Outcome.{Is};
 
 // Where the next bit goes: `at` bytes are stored, and the low `used` bits of `acc` are to follow.
-#[derive(Drop)]
+#[derive(Clone, Copy)]
 pub struct Wide {
     pub acc: u64,
     pub used: usize,

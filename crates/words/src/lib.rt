@@ -1,4 +1,6 @@
 // Text put into a buffer from a place on: each function returns the place behind what it put. What has no room behind the place is left out.
+#![tactic(auto)]
+
 ghost use Rattle.std.specs.Prelude.{◌≡◌, [], ◌∷◌, ◌≤◌, get_or};
 ghost use Rattle.ground.specs.Outcome.{Is};
 ghost use Rattle.words.specs.Words.{decimal, spelled, taken, filled, put};

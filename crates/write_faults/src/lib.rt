@@ -1,4 +1,6 @@
 // What is refused of a write of a payload word, by its stream type, its packet count and the lengths that are lent (clauses 4.3.1 to 4.3.3).
+#![tactic(auto)]
+
 mod packets;
 
 ghost use Rattle.std.specs.Prelude.{◌≡◌};

@@ -1,0 +1,20 @@
+-- `forms::judge::top_set` meets its contract. Assumes nothing.
+use Prim.Native.Nat.{◌-◌, ◌≤◌, ◌<◌}
+use mathlib.Core.Path.{◌≡◌, refl, sym, ap, ◌∙◌}
+use mathlib.Core.Bool.{not}
+use native.Mathlib.Omega.{arith}
+use borrow.Author.Rules.{rules}
+use borrow.Author.Tests.{eq-eqb, ne_eqb}
+use lib.ListN.{get_or, drop}
+use Rattle.ground.specs.Choice.{any}
+use Rattle.ground.proofs.Choice.{any_found, any_more, any_done}
+use Rattle.bits.specs.Places.{fields_at}
+use Rattle.bits.proofs.Places.{fields_length, fields_get}
+use Rattle.description.specs.Tests.{is_set, any_set}
+use Rattle.forms.proofs.judge.top_set.Given as goal
+
+abbrev pub invariant-loop-k : goal.invariant-loop-k
+invariant-loop-k l = (l.k ≤ l.d) × (any_set (fields_at l.sheet l.at 16 4 l.d) ≡ any is_set (drop l.k (fields_at l.sheet l.at 16 4 l.d)))
+
+abbrev pub decreases-loop-k : goal.decreases-loop-k
+decreases-loop-k l = l.d - l.k

@@ -1,0 +1,19 @@
+-- `taps::taps_at` meets its contract. Assumes nothing.
+use Prim.Native.Nat.{ℕ, ◌+◌, ◌-◌, ◌*◌, ◌≤◌}
+use mathlib.Core.Path.{◌≡◌, ap, ◌∙◌}
+use native.Mathlib.Omega.{arith}
+use lib.ListN.{take}
+use lib.Seq.{take_all}
+use Rattle.bits.specs.Places.{fields_at}
+use Rattle.bits.proofs.Places.{field_lt, fields_length}
+use Rattle.description.specs.Rows.{total}
+use Rattle.description.specs.Tests.{taps_of}
+use Rattle.taps.proofs.Tapping.{taps_more, taps_far}
+use borrow.Author.Rules.{rules}
+use Rattle.taps.proofs.taps_at.Given as goal
+
+abbrev pub invariant-loop-k : goal.invariant-loop-k
+invariant-loop-k l = (l.k ≤ l.n) × (l.taps ≡ total taps_of (take l.k (fields_at l.w l.at l.apart 4 l.n))) × (l.taps ≤ 32 * l.k)
+
+abbrev pub decreases-loop-k : goal.decreases-loop-k
+decreases-loop-k l = l.n - l.k

@@ -1,0 +1,7 @@
+-- `views::of_sheet` meets its contract. Assumes nothing.
+use Rattle.views.proofs.Views.{sheet_viewed}
+use borrow.Author.Rules.{rules}
+use Rattle.views.proofs.of_sheet.Goals as goal
+
+pub returns : goal.returns
+returns c = sheet_viewed c.args.h c.args.p c.args.s
