@@ -1,5 +1,7 @@
 // The C face: exported functions on numbers and byte slices, each a call of the crate that does the work.
 // include/opl.h documents them for their callers.
+#![tactic(auto)]
+
 ghost use Rattle.std.specs.Prelude.{not, ◌<◌, eqb};
 ghost use Rattle.ground.specs.Outcome.{Is, number_of};
 ghost use Rattle.bits.specs.Lists.{Below};

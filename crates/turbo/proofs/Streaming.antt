@@ -6,7 +6,6 @@ use mathlib.Core.List.{List}
 use native.Mathlib.Nat.{add-zero, mul-one, not-suc-le-zero}
 use native.Mathlib.Omega.{arith}
 use lib.Bits.{bit_xor}
-use lib.Dec.{T}
 use lib.ListN.{length, get_or}
 use lib.Pow.{high, low}
 use borrow.Author.Tests.{lt-ltb}
@@ -28,7 +27,7 @@ use Rattle.constituent.specs.Symbols.{data_symbols}
 use Rattle.turbo.specs.Lane.{second, group, lane_bit}
 use Rattle.turbo.specs.Encode.{code_bits}
 use Rattle.constituent.proofs.Linear.{Bits}
-use Rattle.constituent.specs.Six.{state_of, bit_of, after, registers, six, joint}
+use Rattle.constituent.specs.Six.{state_of, bit_of, after, registers, joint}
 use Rattle.constituent.specs.Segment.{digit_at, segment}
 use Rattle.tables.specs.Plan.{half_at, coded, plan_of}
 use Rattle.turbo.specs.Stream.{code_bit, told, chunked, thrice, both, Prepared, Sent}

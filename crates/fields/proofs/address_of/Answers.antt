@@ -5,7 +5,6 @@ use borrow.Author.Tests.{eq-eqb, ne_eqb}
 use Rattle.ground.proofs.Choice.{choose_true, choose_false}
 use Rattle.bits.proofs.Places.{field_lt}
 use Rattle.infoword.specs.Suffix.{address_of}
-use borrow.Author.Rules.{rules}
 use Rattle.fields.proofs.address_of.Goals as goal
 
 pub returns-then-kind-eq-IP_STREAM : goal.returns-then-kind-eq-IP_STREAM

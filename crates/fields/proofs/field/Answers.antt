@@ -3,7 +3,6 @@ use Prim.Native.Nat.{◌^◌, ◌≤◌}
 use native.Mathlib.Omega.{arith}
 use lib.Pow.{pow_mono}
 use Rattle.bits.proofs.Places.{field_lt}
-use borrow.Author.Rules.{rules}
 use Rattle.fields.proofs.field.Goals as goal
 
 pub overflow_cast-result : goal.overflow_cast-result

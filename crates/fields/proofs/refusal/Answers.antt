@@ -8,9 +8,7 @@ use Rattle.ground.specs.Choice.{choose, both}
 use Rattle.infoword.specs.Suffix.{kind_of, crc_field_of, spare_of, address_of, covered_of, header_crc}
 use Rattle.fields.specs.Report.{no_header_at}
 use Rattle.fields.proofs.Faults.{read_1, read_2, read_5, read_16, read_15, read_18, read_0, address_looked_at}
-use borrow.Author.Rules.{rules}
 use Rattle.fields.proofs.refusal.Goals as goal
-use Rattle.fields.proofs.refusal.Tie as tie
 
 pub returns-then-word-ne-PAYLOAD_WORD : goal.returns-then-word-ne-PAYLOAD_WORD
 returns-then-word-ne-PAYLOAD_WORD c = read_1 c.args.word.now c.if-word-ne-PAYLOAD_WORD.true

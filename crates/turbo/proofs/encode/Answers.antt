@@ -7,7 +7,6 @@ use Rattle.patterns.proofs.Blocks.{block_le}
 use Rattle.interleaver.specs.Read.{interleaved}
 use Rattle.turbo.specs.Encode.{faults, refusal}
 use Rattle.turbo.proofs.Accepting.{Accepted, accepted, fills, word_size, same_block, wrote, refused}
-use borrow.Author.Rules.{rules}
 use Rattle.turbo.proofs.encode.Goals as goal
 
 pub refusal-r-requires : goal.refusal-r-requires

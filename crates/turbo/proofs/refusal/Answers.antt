@@ -9,7 +9,6 @@ use Rattle.patterns.specs.Blocks.{block_faults}
 use Rattle.patterns.specs.Sent.{code_length}
 use Rattle.patterns.proofs.Blocks.{fit_after}
 use Rattle.turbo.specs.Encode.{word_faults, faults}
-use borrow.Author.Rules.{rules}
 use Rattle.turbo.proofs.refusal.Goals as goal
 
 pub returns-then-unfit-ne0 : goal.returns-then-unfit-ne0

@@ -4,7 +4,6 @@ use mathlib.Core.Path.{ap}
 use Rattle.wide.specs.declared.Wide.{Wide}
 use Rattle.turbo.specs.Stream.{told, chunked}
 use Rattle.turbo.specs.declared.stream.Coder.{Coder}
-use borrow.Author.Rules.{rules}
 use Rattle.turbo.proofs.stream.chunk.Goals as goal
 
 pub returns : goal.returns

@@ -9,12 +9,11 @@ use Rattle.tables.specs.declared.Plan.{Plan}
 use Rattle.tail.specs.Tail.{run_of}
 use Rattle.turbo.specs.Stream.{code_bit}
 use Rattle.turbo.proofs.Ending.{ended}
-use borrow.Author.Rules.{rules}
 use Rattle.turbo.proofs.stream.code.Goals as goal
 
 pub send-c-requires : goal.send-c-requires
 send-c-requires c =
- let e = c.plan_of-plan.ensures ∙ ap plan_of c.entries-rows.ensures in (
+    let e = c.plan_of-plan.ensures ∙ ap plan_of c.entries-rows.ensures in (
       record {
         coded = c.requires.0;
         word = c.requires.1;
@@ -29,7 +28,7 @@ send-c-requires c =
 
 pub returns : goal.returns
 returns c =
- let a = c.args in
+    let a = c.args in
     let s = c.send-c in
     let e = c.run_of-tail.ensures ∙ ap (λ (l : List ℕ). run_of l s.result.both) c.entries-rows.ensures in
     ended a.pattern a.n a.word.now s.new.out s.result c.run_of-tail.result c.put.result c.put.new.out c.requires.0 s.ensures.0 e c.put.ensures

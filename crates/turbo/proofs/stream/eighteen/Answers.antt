@@ -6,7 +6,6 @@ use Rattle.ground.specs.Outcome.{Outcome}
 use Rattle.turbo.specs.Stream.{chunked, thrice}
 use Rattle.turbo.specs.declared.stream.Coder.{Coder}
 use Rattle.turbo.proofs.Streaming.{chunked_both, then}
-use borrow.Author.Rules.{rules}
 use Rattle.turbo.proofs.stream.eighteen.Goals as goal
 
 pub chunk-c2-requires : goal.chunk-c2-requires

@@ -1,5 +1,5 @@
 -- `turbo::stream::send` meets its contract. Assumes nothing.
-use Prim.Native.Nat.{ℕ, ◌+◌, ◌-◌, ◌*◌, ◌/◌, ◌≤◌, ◌<◌}
+use Prim.Native.Nat.{ℕ, ◌+◌, ◌*◌, ◌/◌, ◌≤◌, ◌<◌}
 use mathlib.Core.Path.{◌≡◌, refl, ◌∙◌, subst}
 use mathlib.Core.Logic.{⊎_elim}
 use native.Mathlib.Omega.{arith}
@@ -9,7 +9,6 @@ use Rattle.patterns.proofs.Blocks.{coded_bounds}
 use Rattle.turbo.specs.Stream.{Sent}
 use Rattle.turbo.proofs.Reading.{second_length}
 use Rattle.turbo.proofs.Streaming.{sent_none, sent_both, eighteen_sent, last_sent}
-use borrow.Author.Rules.{rules}
 use Rattle.turbo.proofs.stream.send.Goals as goal
 
 -- both blocks have 18 groups behind those of three bytes
@@ -18,7 +17,7 @@ sizes p n = ⊎_elim (λ w. (omega (arith, w.1), omega (arith, w.1))) (λ w. (om
 
 pub loop-i-init : goal.loop-i-init
 loop-i-init c =
- let a = c.args in
+    let a = c.args in
     (omega arith, sent_none a.pattern a.n a.word.now a.out.now c.requires.1, refl)
 
 pub overflow_mul-i : goal.overflow_mul-i
@@ -98,7 +97,7 @@ loop-i-preserved c =
     (s.0, s.1 ∙ l.invariant.2) in
     let a = c.args in
     let l = c.loop-i in
- let k = c.chunk-c in
+    let k = c.chunk-c in
     let s = sent in
     let i : l.i < a.n / 24 = omega (arith, c.if-end-i.false) in
     let g = last_sent a.pattern a.n a.word.now a.second.now a.look.now a.k0 a.k1 c.requires.0 l.i c.three-x.result c.three-y.result
