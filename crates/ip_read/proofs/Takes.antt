@@ -10,7 +10,7 @@ use lib.Seq.{take_all, length-take-le}
 use Rattle.byte_runs.specs.Runs.{copied}
 use Rattle.byte_runs.proofs.Runs.{copied_is, copied_length}
 use Rattle.ip.specs.Packet.{Packet}
-use Rattle.ip.specs.Read.{Open, none, begun, Got, gives, first, reading}
+use Rattle.ip.specs.Read.{Open, begun, Got, gives, first, reading}
 use Rattle.ip.specs.Memory.{queued, queue, open_bytes, open_in}
 use Rattle.ip.proofs.Any.{room_enough}
 use Rattle.ip.proofs.Memory.{open_meant}

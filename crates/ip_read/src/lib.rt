@@ -13,6 +13,7 @@ use ip_look::PAYLOAD;
 
 // Reads the next word of an IP stream: its header into 16 bytes, the packets that end in it to the front of packets, and what is then open
 // into the memory of the open packet; returns 0. A word of type 0, 1 or 2 leaves packets and memory. A refusal touches nothing.
+#[tactic(auto, using(crate::proofs::Outcomes::read_refused))]
 pub fn read(word: &[u8], memory: &mut [u8], packets: &mut [u8], header: &mut [u8]) -> u8
     ensures { Is (read_into word.now memory.old packets.old header.old) result (memory.new, packets.new, header.new) }
 {

@@ -19,32 +19,25 @@ use Rattle.ip.specs.Memory.{open_in}
 use Rattle.ip_look.specs.Looking.{got_of}
 use Rattle.ip_read.specs.Steps.{TakenIn}
 use Rattle.ip_look.proofs.Faults.{Taken, taken}
-use Rattle.ip_read.proofs.Outcomes.{answered, read_refused, read_other, read_3}
-use borrow.Author.Rules.{rules}
+use Rattle.ip_read.proofs.Outcomes.{answered, read_other, read_3}
 use Rattle.ip_read.proofs.read.Goals as goal
-use Rattle.ip_read.proofs.read.Tie as tie
-
-pub returns-then-n-gt0 : goal.returns-then-n-gt0
-returns-then-n-gt0 c =
- let a = c.args in
-    read_refused a.word.now a.memory.now a.packets.now a.header.now c.refusal-n.result c.refusal-n.ensures (omega (arith, c.if-n-gt0.true))
 
 pub returns-then-h-ne-IP_STREAM : goal.returns-then-h-ne-IP_STREAM
 unfolding header_of
 returns-then-h-ne-IP_STREAM c =
     let asked : let a = c.args in Taken a.word.now a.memory.now (length a.packets.now) (length a.header.now) = let a = c.args in
-    let e : 0 ≡ c.refusal-n.result = omega (arith, c.if-n-gt0.false) in
+    let e : 0 ≡ c.refusal-n.result = omega arith in
     taken a.word.now a.memory.now (length a.packets.now) (length a.header.now) (sym (e ∙ c.refusal-n.ensures)) in
     let type_is : let a = c.args in c.header_of-h.result.kind ≡ kind_of a.word.now = ap (λ (h : Header). h.kind) c.header_of-h.ensures in
     let a = c.args in
-    answered c.refusal-n.result (omega (arith, c.if-n-gt0.false))
+    answered c.refusal-n.result (omega arith)
     (read_other a.word.now a.memory.now a.packets.now a.header.now (asked) (λ three. c.if-h-ne-IP_STREAM.true (type_is ∙ three)) c.put_header.new.out
     (c.put_header.ensures ∙ header_put_lem c.header_of-h.result 0 a.header.now (asked).header_is ∙ ap header_bytes c.header_of-h.ensures))
 
 pub slice_bounds-take_in-end : goal.slice_bounds-take_in-end
 slice_bounds-take_in-end c =
     let asked : let a = c.args in Taken a.word.now a.memory.now (length a.packets.now) (length a.header.now) = let a = c.args in
-    let e : 0 ≡ c.refusal-n.result = omega (arith, c.if-n-gt0.false) in
+    let e : 0 ≡ c.refusal-n.result = omega arith in
     taken a.word.now a.memory.now (length a.packets.now) (length a.header.now) (sym (e ∙ c.refusal-n.ensures)) in
     sym (length-take-le 1504 c.args.word.now (omega (arith, (asked).readable.word_is)))
 
@@ -52,7 +45,7 @@ pub take_in-handed-requires : goal.take_in-handed-requires
 unfolding got_of header_of
 take_in-handed-requires c =
     let asked : let a = c.args in Taken a.word.now a.memory.now (length a.packets.now) (length a.header.now) = let a = c.args in
-    let e : 0 ≡ c.refusal-n.result = omega (arith, c.if-n-gt0.false) in
+    let e : 0 ≡ c.refusal-n.result = omega arith in
     taken a.word.now a.memory.now (length a.packets.now) (length a.header.now) (sym (e ∙ c.refusal-n.ensures)) in
     let type_is : let a = c.args in c.header_of-h.result.kind ≡ kind_of a.word.now = ap (λ (h : Header). h.kind) c.header_of-h.ensures in
     let address_is : let a = c.args in kind_of a.word.now ≡ 3 → c.header_of-h.result.address ≡ address_of a.word.now = λ three. let w = c.args.word.now in
@@ -69,7 +62,7 @@ pub returns : goal.returns
 unfolding got_of header_of
 returns c =
     let asked : let a = c.args in Taken a.word.now a.memory.now (length a.packets.now) (length a.header.now) = let a = c.args in
-    let e : 0 ≡ c.refusal-n.result = omega (arith, c.if-n-gt0.false) in
+    let e : 0 ≡ c.refusal-n.result = omega arith in
     taken a.word.now a.memory.now (length a.packets.now) (length a.header.now) (sym (e ∙ c.refusal-n.ensures)) in
     let type_is : let a = c.args in c.header_of-h.result.kind ≡ kind_of a.word.now = ap (λ (h : Header). h.kind) c.header_of-h.ensures in
     let address_is : let a = c.args in kind_of a.word.now ≡ 3 → c.header_of-h.result.address ≡ address_of a.word.now = λ three. let w = c.args.word.now in
@@ -84,6 +77,6 @@ returns c =
     let n : ℕ = c.take_in-handed.result in
     let g : TakenIn (reading (open_in a.memory.now) (address_of w) (take 1504 w)) m' a.packets.now p' n =
     subst (λ (y : ℕ). TakenIn (reading (open_in a.memory.now) y (take 1504 w)) m' a.packets.now p' n) x d in
-    answered c.refusal-n.result (omega (arith, c.if-n-gt0.false))
+    answered c.refusal-n.result (omega arith)
     (read_3 w a.memory.now a.packets.now a.header.now (asked) (of_3) m' p' c.put_header-2.new.out g.kept g.packets
     (c.put_header-2.ensures ∙ header_put_lem c.header_of-h.result n a.header.now (asked).header_is ∙ ap₂ header_with c.header_of-h.ensures g.out))

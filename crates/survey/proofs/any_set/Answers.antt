@@ -1,14 +1,12 @@
 -- `survey::any_set` meets its contract: what is asked of the whole is asked of what is left. Assumes nothing.
-use Prim.Native.Nat.{◌-◌, ◌≤◌}
-use mathlib.Core.Path.{◌≡◌, refl, sym, ap, ◌∙◌}
-use lib.ListN.{take, drop}
+use mathlib.Core.Path.{refl, sym, ap, ◌∙◌}
+use lib.ListN.{take}
 use Rattle.bits.specs.Lists.{unpack}
 use mathlib.Core.Bool.{not}
 use borrow.Author.Tests.{eq-eqb, ne_eqb}
 use Rattle.survey.proofs.Walks.{set_at, bits_long, bits_done}
 use borrow.Author.Rules.{rules}
 use lib.Seq.{slice}
-use Rattle.ground.specs.Choice.{any}
 use Rattle.ground.proofs.Choice.{any_found, any_more, any_done}
 use Rattle.description.specs.Tests.{is_set, any_set}
 use Rattle.survey.proofs.any_set.Goals as goal
@@ -19,7 +17,7 @@ loop-i-init c = (search rules, refl)
 
 pub returns-then-field-ne0 : goal.returns-then-field-ne0
 returns-then-field-ne0 c =
- let l = c.loop-i in
+    let l = c.loop-i in
     let b = take c.args.to (unpack c.args.word.now) in
     let e = set_at c.args.word.now c.args.to l.i (search rules) c.field.result c.field.ensures in
     sym (any_found is_set b 0 (any_set (slice c.args.from c.args.to (unpack c.args.word.now))) l.i l.invariant.1
@@ -27,7 +25,7 @@ returns-then-field-ne0 c =
 
 pub loop-i-preserved : goal.loop-i-preserved
 loop-i-preserved c =
- let l = c.loop-i in
+    let l = c.loop-i in
     let b = take c.args.to (unpack c.args.word.now) in
     let e = set_at c.args.word.now c.args.to l.i (search rules) c.field.result c.field.ensures in (
       search rules,
@@ -37,7 +35,7 @@ loop-i-preserved c =
 
 pub returns : goal.returns
 returns c =
- let l = c.loop-i in
+    let l = c.loop-i in
     let b = take c.args.to (unpack c.args.word.now) in
     sym (any_done is_set b 0 (any_set (slice c.args.from c.args.to (unpack c.args.word.now))) l.i l.invariant.1
     (bits_done c.args.word.now c.args.to l.i (search rules) (search rules)))

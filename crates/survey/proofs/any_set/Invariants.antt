@@ -1,15 +1,10 @@
 -- `survey::any_set` meets its contract: what is asked of the whole is asked of what is left. Assumes nothing.
 use Prim.Native.Nat.{◌-◌, ◌≤◌}
-use mathlib.Core.Path.{◌≡◌, refl, sym, ap, ◌∙◌}
+use mathlib.Core.Path.{◌≡◌}
 use lib.ListN.{take, drop}
 use Rattle.bits.specs.Lists.{unpack}
-use mathlib.Core.Bool.{not}
-use borrow.Author.Tests.{eq-eqb, ne_eqb}
-use Rattle.survey.proofs.Walks.{set_at, bits_long, bits_done}
-use borrow.Author.Rules.{rules}
 use lib.Seq.{slice}
 use Rattle.ground.specs.Choice.{any}
-use Rattle.ground.proofs.Choice.{any_found, any_more, any_done}
 use Rattle.description.specs.Tests.{is_set, any_set}
 use Rattle.survey.proofs.any_set.Given as goal
 

@@ -3,7 +3,6 @@ use native.Mathlib.Omega.{arith}
 use Prim.Native.Nat.{◌+◌}
 use lib.ListN.{length-set, set}
 use Rattle.ip_read.proofs.Opens.{stored_four}
-use borrow.Author.Rules.{rules}
 use Rattle.ip_read.proofs.numbers.put4.Goals as goal
 
 pub bounds-out-at-2 : goal.bounds-out-at-2

@@ -2,17 +2,16 @@
 use mathlib.Core.Path.{ap, ◌∙◌}
 use Rattle.ip.specs.Read.{Got}
 use Rattle.ip.specs.Memory.{open_bytes}
-use borrow.Author.Rules.{rules}
 use Rattle.ip_read.proofs.taking.follow.Goals as goal
 
 pub keep-requires : goal.keep-requires
 keep-requires c =
- let e = c.hand_out-end.ensures.ended in
+    let e = c.hand_out-end.ensures.ended in
     (c.requires.0, c.requires.1, ap (λ (g : Got). g.refused) e, ap (λ (g : Got). g.packets) e)
 
 pub returns : goal.returns
 returns c =
- let e = c.hand_out-end.ensures in
+    let e = c.hand_out-end.ensures in
     record {
       kept = c.keep.ensures ∙ ap (λ (g : Got). open_bytes g.after) e.ended;
       packets = e.memory;

@@ -1,14 +1,11 @@
 -- `ip_read::taking::hand_out` meets its contract: what is left to hand out leads to all of it. Assumes nothing.
-use Prim.Native.Nat.{◌-◌}
 use native.Mathlib.Omega.{arith}
-use borrow.Author.Rules.{rules}
-use Rattle.ip_read.proofs.Hands.{Handing, Step, hand_none, hand_end, hand_runs, hand_room, hand_fits, hand_more}
+use Rattle.ip_read.proofs.Hands.{Step, hand_none, hand_end, hand_runs, hand_room, hand_fits, hand_more}
 use Rattle.ip_read.proofs.taking.hand_out.Goals as goal
-use Rattle.ip_read.proofs.taking.hand_out.Tie as tie
 
 pub loop-at-init : goal.loop-at-init
 loop-at-init c =
- hand_none c.args.payload.now c.args.from c.args.start c.args.packets.now c.requires.1
+    hand_none c.args.payload.now c.args.from c.args.start c.args.packets.now c.requires.1
 
 pub shape_of-packets-then-payload-end : goal.shape_of-packets-then-payload-end
 shape_of-packets-then-payload-end c = c.loop-at.invariant.size
@@ -42,5 +39,5 @@ shape_of-packets c = c.loop-at.invariant.size
 
 pub returns : goal.returns
 returns c =
- hand_end c.args.payload.now c.args.from c.args.start c.args.packets.now c.loop-at.at c.loop-at.out c.loop-at.packets c.loop-at.invariant
+    hand_end c.args.payload.now c.args.from c.args.start c.args.packets.now c.loop-at.at c.loop-at.out c.loop-at.packets c.loop-at.invariant
     (omega (arith, c.loop-at-test, c.requires.0))

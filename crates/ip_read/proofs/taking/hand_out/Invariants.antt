@@ -1,8 +1,6 @@
 -- `ip_read::taking::hand_out` meets its contract: what is left to hand out leads to all of it. Assumes nothing.
 use Prim.Native.Nat.{◌-◌}
-use native.Mathlib.Omega.{arith}
-use borrow.Author.Rules.{rules}
-use Rattle.ip_read.proofs.Hands.{Handing, Step, hand_none, hand_end, hand_runs, hand_room, hand_fits, hand_more}
+use Rattle.ip_read.proofs.Hands.{Handing}
 use Rattle.ip_read.proofs.taking.hand_out.Given as goal
 
 abbrev pub invariant-loop-at : goal.invariant-loop-at

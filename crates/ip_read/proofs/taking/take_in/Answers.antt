@@ -4,9 +4,7 @@ use native.Mathlib.Omega.{arith}
 use borrow.Author.Tests.{not-true, not-false}
 use Rattle.ip_open.proofs.Means.{means_sound}
 use Rattle.ip_read.proofs.Takes.{Word, none_accepted, none_room, none_taken, runs_taken, ends_accepted, ends_room, ends_taken}
-use borrow.Author.Rules.{rules}
 use Rattle.ip_read.proofs.taking.take_in.Goals as goal
-use Rattle.ip_read.proofs.taking.take_in.Tie as tie
 
 pub follow-requires : goal.follow-requires
 follow-requires c =
