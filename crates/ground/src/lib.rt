@@ -1,4 +1,5 @@
 // What all crates share: the refusal numbers of documents 01 and 02 and the sizes of the standard. Definitions and laws stand in specs/ and proofs/.
+#![tactic(auto)]
 
 // a lent length is wrong
 pub const LENGTH_WRONG: u8 = 1;

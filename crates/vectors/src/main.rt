@@ -41,7 +41,13 @@ fn print_number(rt: &impl Print, name: &str, n: u64) -> io::Result<()> {
 }
 
 // Eight bytes in hex, by two places of 32 bits.
-fn print_bytes(rt: &impl Print, name: &str, codeword: &[u8], one: usize, two: usize) -> io::Result<()> {
+fn print_bytes(
+    rt: &impl Print,
+    name: &str,
+    codeword: &[u8],
+    one: usize,
+    two: usize,
+) -> io::Result<()> {
     let first = bits::field(codeword, one, 32);
     let second = bits::field(codeword, two, 32);
     print!(rt; "{name}{first:08x}{second:08x}")
@@ -66,7 +72,13 @@ fn print_line(rt: &impl Print, block: usize, pattern: u32, codeword: &[u8]) -> i
 }
 
 // Codes a word under a pattern, and prints the line of the codeword, or the number of the refusal.
-fn print_coded(rt: &impl Print, block: usize, pattern: u32, word: &[u8], codeword: &mut [u8]) -> io::Result<()> {
+fn print_coded(
+    rt: &impl Print,
+    block: usize,
+    pattern: u32,
+    word: &[u8],
+    codeword: &mut [u8],
+) -> io::Result<()> {
     let refusal = turbo::encode(pattern, word, codeword);
     if refusal != 0 {
         return println!(rt; "refused {refusal}");

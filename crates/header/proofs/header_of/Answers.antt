@@ -6,7 +6,6 @@ use Rattle.ground.specs.Choice.{choose}
 use Rattle.bits.proofs.Places.{field_lt}
 use Rattle.infoword.specs.Suffix.{id_of, kind_of, version_of, rfu_of, address_of}
 use Rattle.fields.specs.Report.{holding_of, header_of}
-use borrow.Author.Rules.{rules}
 use Rattle.header.proofs.header_of.Goals as goal
 
 pub overflow_cast-id : goal.overflow_cast-id
@@ -21,12 +20,12 @@ overflow_cast-version c =
 
 pub overflow_cast-result : goal.overflow_cast-result
 overflow_cast-result c =
- omega (arith, c.field-kind.ensures, field_lt c.args.word.now 12268 3 (omega arith))
+    omega (arith, c.field-kind.ensures, field_lt c.args.word.now 12268 3 (omega arith))
 
 pub returns : goal.returns
 unfolding header_of
 returns c =
- let w = c.args.word.now in
+    let w = c.args.word.now in
     let a : c.rfu_of-rfu.result ≡ rfu_of w = c.rfu_of-rfu.ensures in
     let b : c.field-id.result ≡ id_of w = c.field-id.ensures in
     let d : c.field-kind.result ≡ kind_of w = c.field-kind.ensures in

@@ -4,9 +4,7 @@ use Rattle.ground.proofs.Choice.{choose_true, choose_false}
 use Rattle.parity.specs.Part.{held_of}
 use Rattle.infoword.specs.Suffix.{has_parity, kind_of}
 use Rattle.fields.specs.Report.{holding_of}
-use borrow.Author.Rules.{rules}
 use Rattle.header.proofs.parity_of.Goals as goal
-use Rattle.header.proofs.parity_of.Tie as tie
 
 pub returns-then-has_parity : goal.returns-then-has_parity
 unfolding holding_of

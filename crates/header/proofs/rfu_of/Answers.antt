@@ -4,13 +4,11 @@ use mathlib.Core.Path.{◌≡◌, sym, ap, ◌∙◌}
 use Rattle.bits.specs.Places.{field_at}
 use Rattle.infoword.specs.Suffix.{has_parity, kind_of, lead_bits}
 use Rattle.infoword.proofs.Ending.{lead_long, lead_short, rfu_of_3, rfu_of_other}
-use borrow.Author.Rules.{rules}
 use Rattle.header.proofs.rfu_of.Goals as goal
-use Rattle.header.proofs.rfu_of.Tie as tie
 
 pub returns-then-kind-eq-IP_STREAM : goal.returns-then-kind-eq-IP_STREAM
 returns-then-kind-eq-IP_STREAM c =
- let w = c.args.word.now in
+    let w = c.args.word.now in
     let f : c.field.result ≡ field_at w 12228 20 = c.field.ensures in
     f ∙ sym (rfu_of_3 w (sym c.requires ∙ c.if-kind-eq-IP_STREAM.true))
 

@@ -7,7 +7,6 @@ use lib.ListN.{length}
 use Rattle.ground.proofs.Choice.{choose_true, choose_false}
 use Rattle.header_bytes.specs.Bytes.{header_with, header_put}
 use Rattle.header_bytes.proofs.Stores.{sixteen, sixteen_are}
-use borrow.Author.Rules.{rules}
 use Rattle.header_bytes.proofs.put_header.Goals as goal
 
 pub returns-then-out-ne-HEADER : goal.returns-then-out-ne-HEADER
@@ -19,7 +18,7 @@ returns-then-out-ne-HEADER c =
 pub returns : goal.returns
 unfolding header_put
 returns c =
- let h = c.args.h in
+    let h = c.args.h in
     sixteen c.args.out.now c.put32.new.out c.put32-2.new.out c.put32-3.new.out c.put32-4.new.out
     h.rfu (h.id * 0x1000000 + h.kind * 0x10000 + h.version * 0x100 + h.parity) (h.address * 0x10000 + c.args.handed) 0
     (omega arith) (omega arith) (omega arith) (omega arith)

@@ -1,11 +1,10 @@
 -- `puncturing::entries` meets its contract. Assumes nothing.
-use Prim.Native.Nat.{ℕ, ◌+◌, ◌-◌, ◌≤◌, ◌<◌}
+use Prim.Native.Nat.{ℕ, ◌+◌, ◌<◌}
 use mathlib.Core.Path.{◌≡◌, refl, sym, ap, ap₂, ◌∙◌}
 use native.Mathlib.Nat.{zero-add}
 use native.Mathlib.Omega.{arith}
-use borrow.Author.Rules.{rules}
 use borrow.Author.Count.{below_none}
-use lib.ListN.{length, get_or, length-set}
+use lib.ListN.{get_or, length-set}
 use Rattle.ground.specs.Table.{tab}
 use Rattle.ground.proofs.Table.{get_or_tab, tab_ext, tab_cong}
 use Rattle.ground.proofs.Fill.{fill_more}
@@ -14,7 +13,6 @@ use Rattle.puncturing.specs.Entries.{entries}
 use Rattle.puncturing.specs.Inside.{entry_from}
 use Rattle.puncturing.proofs.Packed.{digits, data_number, tail_number, entry_is, group_none}
 use Rattle.puncturing.proofs.entries.Goals as goal
-use Rattle.puncturing.proofs.entries.Tie as tie
 
 -- the entry of a pattern by its two rows, as they stand in the tables
 stored : (p j : ℕ) → p < 28 → j < 18 → entry_from (get_or (tab data_number 0 28) p 0) (get_or (tab tail_number 0 28) p 0) j ≡ group_at p 12 j

@@ -2,8 +2,7 @@
 use mathlib.Core.Path.{sym, ◌∙◌}
 use borrow.Author.Tests.{lt-ltb, le-ltb}
 use Rattle.ground.proofs.Choice.{choose_true}
-use Rattle.puncturing.specs.Inside.{spaced, entry_from}
-use borrow.Author.Rules.{rules}
+use Rattle.puncturing.specs.Inside.{entry_from}
 use Rattle.puncturing.proofs.entry_from.Goals as goal
 
 pub returns-then-j-lt12 : goal.returns-then-j-lt12

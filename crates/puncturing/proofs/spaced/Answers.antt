@@ -1,7 +1,6 @@
 -- `puncturing::spaced` meets its contract. Assumes nothing.
 use mathlib.Core.Path.{refl}
 use Rattle.puncturing.specs.Inside.{spaced}
-use borrow.Author.Rules.{rules}
 use Rattle.puncturing.proofs.spaced.Goals as goal
 
 pub returns : goal.returns

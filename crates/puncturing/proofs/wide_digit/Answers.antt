@@ -5,7 +5,6 @@ use native.Mathlib.Nat.{div-one}
 use native.Mathlib.Omega.{arith}
 use Rattle.patterns.specs.Rows.{digit}
 use Rattle.puncturing.proofs.Packed.{eights}
-use borrow.Author.Rules.{rules}
 use Rattle.puncturing.proofs.wide_digit.Goals as goal
 
 pub returns-then-s-gt4 : goal.returns-then-s-gt4

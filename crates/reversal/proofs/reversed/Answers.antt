@@ -7,7 +7,6 @@ use lib.Pow.{field, mod-mod-pow}
 use Rattle.ground.specs.Table.{all_below}
 use Rattle.ground.proofs.Table.{at_all}
 use Rattle.order.specs.Order.{reversed}
-use borrow.Author.Rules.{rules}
 use Rattle.reversal.proofs.reversed.Goals as goal
 
 -- a formula of the code's form, by its coefficients

@@ -3,7 +3,6 @@ use mathlib.Core.Path.{refl}
 use native.Mathlib.Omega.{arith}
 use Rattle.steps.specs.Steps.{onward}
 use Rattle.steps.proofs.Small.{records_small}
-use borrow.Author.Rules.{rules}
 use Rattle.steps.proofs.onward.Goals as goal
 
 pub overflow_mul-result : goal.overflow_mul-result

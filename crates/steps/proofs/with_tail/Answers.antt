@@ -1,7 +1,6 @@
 -- `steps::with_tail` meets its contract. Assumes nothing.
 use mathlib.Core.Path.{refl}
 use Rattle.steps.specs.Steps.{with_tail}
-use borrow.Author.Rules.{rules}
 use Rattle.steps.proofs.with_tail.Goals as goal
 
 pub returns : goal.returns

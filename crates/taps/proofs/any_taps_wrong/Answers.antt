@@ -1,12 +1,11 @@
 -- `taps::any_taps_wrong` meets its contract. Assumes nothing.
 use mathlib.Core.Path.{sym, ◌∙◌}
-use Prim.Native.Nat.{◌-◌, ◌<◌}
+use Prim.Native.Nat.{◌<◌}
 use native.Mathlib.Omega.{arith}
 use Rattle.sheets.proofs.Owning.{pipe_small}
-use Rattle.taps.proofs.Tapping.{Tapped, taps_far, tapped_none, tapped_found, tapped_more, tapped_done}
+use Rattle.taps.proofs.Tapping.{taps_far, tapped_none, tapped_found, tapped_more, tapped_done}
 use borrow.Author.Rules.{rules}
 use Rattle.taps.proofs.any_taps_wrong.Goals as goal
-use Rattle.taps.proofs.any_taps_wrong.Tie as tie
 
 pub loop-i-init : goal.loop-i-init
 loop-i-init c = let a = c.args in tapped_none a.w.now a.v a.p

@@ -1,8 +1,7 @@
 -- `taps::taps_at` meets its contract. Assumes nothing.
-use Prim.Native.Nat.{ℕ, ◌+◌, ◌-◌, ◌*◌, ◌≤◌}
+use Prim.Native.Nat.{ℕ, ◌+◌, ◌*◌}
 use mathlib.Core.Path.{◌≡◌, ap, ◌∙◌}
 use native.Mathlib.Omega.{arith}
-use lib.ListN.{take}
 use lib.Seq.{take_all}
 use Rattle.bits.specs.Places.{fields_at}
 use Rattle.bits.proofs.Places.{field_lt, fields_length}
@@ -33,7 +32,7 @@ overflow_add-taps-in-loop-k c = omega (arith, c.field.ensures, field_lt c.args.w
 
 pub loop-k-preserved : goal.loop-k-preserved
 loop-k-preserved c =
- let l = c.loop-k in
+    let l = c.loop-k in
     let w = c.args.w.now in
     let small = field_lt w (c.args.at + c.args.apart * l.k) 4 (omega arith) in (
       omega arith,
@@ -43,6 +42,6 @@ loop-k-preserved c =
 
 pub returns : goal.returns
 returns c =
- let l = c.loop-k in
+    let l = c.loop-k in
     let e : l.k ≡ c.args.n = omega arith in
     l.invariant.1 ∙ ap (total taps_of) (take_all l.k (fields_at c.args.w.now c.args.at c.args.apart 4 c.args.n) (omega (arith, fields_length c.args.w.now c.args.at c.args.apart 4 c.args.n)))

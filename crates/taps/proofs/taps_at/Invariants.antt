@@ -1,15 +1,10 @@
 -- `taps::taps_at` meets its contract. Assumes nothing.
-use Prim.Native.Nat.{ℕ, ◌+◌, ◌-◌, ◌*◌, ◌≤◌}
-use mathlib.Core.Path.{◌≡◌, ap, ◌∙◌}
-use native.Mathlib.Omega.{arith}
+use Prim.Native.Nat.{◌-◌, ◌*◌, ◌≤◌}
+use mathlib.Core.Path.{◌≡◌}
 use lib.ListN.{take}
-use lib.Seq.{take_all}
 use Rattle.bits.specs.Places.{fields_at}
-use Rattle.bits.proofs.Places.{field_lt, fields_length}
 use Rattle.description.specs.Rows.{total}
 use Rattle.description.specs.Tests.{taps_of}
-use Rattle.taps.proofs.Tapping.{taps_more, taps_far}
-use borrow.Author.Rules.{rules}
 use Rattle.taps.proofs.taps_at.Given as goal
 
 abbrev pub invariant-loop-k : goal.invariant-loop-k

@@ -9,7 +9,6 @@ use Rattle.ground.proofs.Choice.{both_first}
 use Rattle.bits.specs.Places.{fields_at}
 use Rattle.description.specs.Rows.{total}
 use Rattle.description.specs.Tests.{taps_of}
-use borrow.Author.Rules.{rules}
 use Rattle.taps.proofs.taps_wrong.Goals as goal
 
 pub returns-then-q-eq0 : goal.returns-then-q-eq0

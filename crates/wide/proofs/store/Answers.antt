@@ -3,7 +3,6 @@ use mathlib.Core.Path.{refl}
 use native.Mathlib.Omega.{arith}
 use lib.ListN.{length-set}
 use Rattle.wide.specs.Wide.{stored}
-use borrow.Author.Rules.{rules}
 use Rattle.wide.proofs.store.Goals as goal
 
 pub bounds-out-at-2 : goal.bounds-out-at-2

@@ -19,12 +19,12 @@ overflow_add-own c =
 
 pub returns-then-s-own : goal.returns-then-s-own
 returns-then-s-own c =
- let a = c.args in
+    let a = c.args in
     sym (streams_differ a.sheet.now a.v a.p a.s a.d c.multiplex_at.result c.multiplex_at.ensures c.if-p-multiplex_at.false _ c.owned_at-own.ensures
     _ c.tail_owned_at.ensures c.if-s-own.true)
 
 pub returns : goal.returns
 returns c =
- let a = c.args in
+    let a = c.args in
     sections_left a.sheet.now a.v a.p a.s a.d c.multiplex_at.result c.multiplex_at.ensures c.if-p-multiplex_at.false _ c.owned_at-own.ensures
     _ c.tail_owned_at.ensures c.if-s-own.false

@@ -1,6 +1,6 @@
-use Rattle.std.proofs.Common.{◌≡◌, sym, ap, ◌∙◌, not, eqb, ltb, take, List, arith, rules}
+use Rattle.std.proofs.Common.{◌≡◌, sym, ap, ◌∙◌, not, eqb, ltb, arith, rules}
 use borrow.Author.Tests.{eq-eqb, ne_eqb, lt-ltb, le-ltb}
-use Rattle.ground.proofs.Choice.{AllClear, fault_at}
+use Rattle.ground.proofs.Choice.{fault_at}
 use Rattle.forms.specs.Records.{record_faults_at}
 use Rattle.forms.proofs.Counts.{above, top_is, version_is, count_is, size_is, rest_is, said, said_behind}
 use Rattle.forms.proofs.judge.record_fault.Goals as goal

@@ -1,15 +1,9 @@
 -- `forms::judge::top_set` meets its contract. Assumes nothing.
-use Prim.Native.Nat.{◌-◌, ◌≤◌, ◌<◌}
-use mathlib.Core.Path.{◌≡◌, refl, sym, ap, ◌∙◌}
-use mathlib.Core.Bool.{not}
-use native.Mathlib.Omega.{arith}
-use borrow.Author.Rules.{rules}
-use borrow.Author.Tests.{eq-eqb, ne_eqb}
-use lib.ListN.{get_or, drop}
+use Prim.Native.Nat.{◌-◌, ◌≤◌}
+use mathlib.Core.Path.{◌≡◌}
+use lib.ListN.{drop}
 use Rattle.ground.specs.Choice.{any}
-use Rattle.ground.proofs.Choice.{any_found, any_more, any_done}
 use Rattle.bits.specs.Places.{fields_at}
-use Rattle.bits.proofs.Places.{fields_length, fields_get}
 use Rattle.description.specs.Tests.{is_set, any_set}
 use Rattle.forms.proofs.judge.top_set.Given as goal
 
