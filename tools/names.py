@@ -25,7 +25,7 @@ KNOWN = {
     *("word.c", "./word"),  # README.md's program, saved and built by whoever reads it
     *("F_spec", "F_agrees", "agrees"),  # the theorems of a function, where F stands for its name
     *("axioms", "trusted", "logic-built"),  # what rt prints
-    *("libc::read", "libc::write"),  # of the toolchain's libraries
+    *("libc::read", "libc::write", "os::c::__xpg_strerror_r", "os::c::rattle_errno"),  # of the toolchain's libraries
 }
 
 # where words are looked for, and what a comment is in a file of each kind
