@@ -8,14 +8,22 @@ ghost use Rattle.std.specs.Prelude.{◌≡◌};
 ghost use Rattle.order.specs.Order.{order};
 ghost use Rattle.listed.specs.Listed.{listed};
 
-// What encoder 2 reads of a signalling word's block, packed, and zeros behind it. Places past the end of the word read 0.
-pub fn read(word: &[u8]) -> [u8; 1536]
-    ensures { result ≡ listed (order 762) word.now }
+// What encoder 2 reads of a signalling word's block, packed, into lent bytes, and zeros behind it. Places past the end of the word read 0.
+pub fn read_into(word: &[u8], out: &mut [u8; 1536])
+    ensures { out.new ≡ listed (order 762) word.now }
 {
     let list = addresses::signalling();
     let mut d = [0u8; 768];
     single::unpack(word, &mut d);
+    *out = [0u8; 1536];
+    eight::pack(&list, &d, out);
+}
+
+// What encoder 2 reads of a signalling word's block, packed, and zeros behind it. Places past the end of the word read 0.
+pub fn read(word: &[u8]) -> [u8; 1536]
+    ensures { result ≡ listed (order 762) word.now }
+{
     let mut out = [0u8; 1536];
-    eight::pack(&list, &d, &mut out);
+    read_into(word, &mut out);
     out
 }

@@ -86,17 +86,25 @@ fn segments(t: &[u64; 256], word: &[u8; 1536], d: &mut [u8], half: usize)
     }
 }
 
+// The pairs of the block of 24 segments, each of twice `half` bytes of a word. Places past the end of the word read 0.
+fn unpack_by(word: &[u8], d: &mut [u8], half: usize)
+    requires { (0 < half) × (half ≤ 32) × (length d.old ≡ 24 * (16 * half)) }
+    ensures { d.new ≡ pairs_of word.now (16 * half) }
+{
+    let block = block_of(word);
+    let table = spread_table();
+    segments(&table, &block, d, half);
+}
+
 // The pairs of a word's block into the lent bytes, 12,288 for the payload's block and 768 for the signalling word's. Places past the end of the word read 0.
 pub fn unpack(word: &[u8], d: &mut [u8])
     ensures { d.new ≡ unpacked word.now d.old }
 {
-    let block = block_of(word);
-    let table = spread_table();
     if d.len() == 12288 {
-        segments(&table, &block, d, 32);
+        unpack_by(word, d, 32);
         return;
     }
     if d.len() == 768 {
-        segments(&table, &block, d, 2);
+        unpack_by(word, d, 2);
     }
 }

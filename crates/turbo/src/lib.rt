@@ -38,7 +38,8 @@ pub fn encode(pattern: u32, infoword: &[u8], codeword: &mut [u8]) -> u8
     if r != 0 {
         return r;
     }
-    let second = interleaver::interleaved(n, infoword);
+    let mut second = [0u8; 1536];
+    interleaver::interleave(n, infoword, &mut second);
     crate::stream::code(p, n, infoword, &second, codeword);
     0
 }

@@ -115,9 +115,9 @@ pub fn code(pattern: usize, n: usize, word: &[u8], second: &[u8], out: &mut [u8]
     ensures { out.new ≡ packed (code_bit pattern n word.now) (length out.old) }
 {
     let rows = puncturing::entries(pattern);
-    let plan = tables::plan_of(&rows);
-    let look = plan.look;
-    let c = send(out, word, second, pattern, n, &look, plan.k0, plan.k1);
+    let mut look = [0u64; 384];
+    let (k0, k1) = tables::plan_into(&rows, &mut look);
+    let c = send(out, word, second, pattern, n, &look, k0, k1);
     let sink = c.sink;
     let tail = tail::run_of(&rows, c.both);
     wide::put(out, sink, tail.value, tail.bits);

@@ -32,7 +32,7 @@ code-requires c =
     let h = holds in (
       h.coded,
       word_size a.pattern n (length a.infoword.now) c.block_by-n.ensures h.coded,
-      c.interleaved-second.ensures ∙ ap (λ (m : ℕ). interleaved m a.infoword.now) (same_block a.pattern n h.coded),
+      c.interleave.ensures ∙ ap (λ (m : ℕ). interleaved m a.infoword.now) (same_block a.pattern n h.coded),
       fills a.pattern n a.codeword.now h,
     )
 

@@ -13,15 +13,16 @@ use Rattle.turbo.proofs.stream.code.Goals as goal
 
 pub send-c-requires : goal.send-c-requires
 send-c-requires c =
-    let e = c.plan_of-plan.ensures ∙ ap plan_of c.entries-rows.ensures in (
+    let p = c.plan_into-k0.ensures in
+    let e = ap plan_of c.entries-rows.ensures in (
       record {
         coded = c.requires.0;
         word = c.requires.1;
         byte = λ k. omega (arith, c.type_inv.word k);
         second = c.requires.2;
-        looks = ap (λ (x : Plan). x.look) e;
-        bits0 = ap (λ (x : Plan). x.k0) e;
-        bits1 = ap (λ (x : Plan). x.k1) e;
+        looks = p.0 ∙ ap (λ (x : Plan). x.look) e;
+        bits0 = ap (λ (x : ℕ × ℕ). x.0) p.1 ∙ ap (λ (x : Plan). x.k0) e;
+        bits1 = ap (λ (x : ℕ × ℕ). x.1) p.1 ∙ ap (λ (x : Plan). x.k1) e;
       },
       c.requires.3,
     )
