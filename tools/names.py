@@ -113,7 +113,8 @@ def faults(repository, document):
 
 def main():
     repository = Repository()
-    documents = [TOP / "README.md", *sorted(TOP.glob("docs/*.md"))]
+    # docs/PORT.md says what was called otherwise, so it names what is gone
+    documents = [TOP / "README.md", *(path for path in sorted(TOP.glob("docs/*.md")) if path.name != "PORT.md")]
     found = [fault for document in documents for fault in faults(repository, document)]
     for fault in found:
         print(f"names: {fault}", file=sys.stderr)
