@@ -3,8 +3,8 @@
 #
 #   tools/built.sh CRATE FILE     the library (a static one) or the program of crates/CRATE
 #
-# In a fresh clone all crates are proved first, as many side by side as there are processors, and a line tells how far
-# that is. Where a crate is not proved, all that the toolchain said follows.
+# Where the crate was not built here before, all crates are proved first, as many side by side as there are processors,
+# and a line tells how far that is. Where a crate is not proved, all that the toolchain said follows.
 set -eu
 
 crate=$1
@@ -31,13 +31,13 @@ count() { # PATTERN..: of files and folders
     ls -d "$@" 2>/dev/null | wc -l
 }
 
-if [ ! -d crates/ground/out ]; then
+if [ ! -d "crates/$crate/out/incremental" ]; then
     total=$(count crates/*/src)
     echo "proving the $total crates, which takes some minutes where nothing is proved yet"
     rt all check --jobs "$(nproc)" </dev/null >"$said" 2>&1 &
     running=$!
     while kill -0 "$running" 2>/dev/null; do
-        printf '\r%s of %s crates' "$(count crates/*/out)" "$total" >&2
+        printf '\r%s of %s crates' "$(count crates/*/out/incremental)" "$total" >&2
         sleep 2
     done
     echo >&2
