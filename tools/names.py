@@ -113,8 +113,8 @@ def faults(repository, document):
 
 def main():
     repository = Repository()
-    # docs/PORT.md says what was called otherwise, so it names what is gone
-    documents = [TOP / "README.md", *(path for path in sorted(TOP.glob("docs/*.md")) if path.name != "PORT.md")]
+    # docs/PORT.md and docs/DESIGN-PASS.md say what was called otherwise, so they name what is gone
+    documents = [TOP / "README.md", *(path for path in sorted(TOP.glob("docs/*.md")) if path.name not in ("PORT.md", "DESIGN-PASS.md"))]
     found = [fault for document in documents for fault in faults(repository, document)]
     for fault in found:
         print(f"names: {fault}", file=sys.stderr)
