@@ -8,10 +8,7 @@ ghost use Rattle.bits.specs.Places.{bit_at, field_at};
 pub fn byte(s: &[u8], i: usize) -> u8
     ensures { result ≡ get_or s.now i 0 }
 {
-    if i < s.len() {
-        return s[i];
-    }
-    0
+    s.get(i).copied().unwrap_or(0)
 }
 
 // The bit k of the byte j, counted from the top; zero where there is no such byte.
@@ -45,10 +42,8 @@ pub fn field(s: &[u8], at: usize, n: usize) -> u32
         return 0;
     }
     let mut v: u32 = 0;
-    let mut i: usize = 0;
-    while i < n {
+    for i in 0..n {
         v = v * 2 + bit_from(s, at, i) as u32;
-        i += 1;
     }
     v
 }

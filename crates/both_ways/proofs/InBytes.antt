@@ -9,6 +9,7 @@ use native.Mathlib.Omega.{arith}
 use lib.Dec.{eqb}
 use lib.ListN.{length, get_or, take, drop}
 use Rattle.ground.specs.Outcome.{Is}
+use Rattle.ground.specs.declared.refusal.Refusal.TheVariants.{CrcWrong}
 use Rattle.ground.specs.Choice.{choose, refuse}
 use Rattle.ground.proofs.Outcome.{agree}
 use Rattle.ground.proofs.Choice.{choose_true, no_difference, all_clear, clear_all}
@@ -65,7 +66,7 @@ module _ (w out : List ℕ) (n : ℕ) (m : List ℕ) (o : Is (read_into w out) n
   -- one other header bit, which leaves the number of covered bits: 5, and nothing is touched
   pub into_damaged : (v out' : List ℕ) (r : ℕ) (m' : List ℕ) (i : ℕ) → OneBit w v i → covered (kind_of v) ≡ covered (kind_of w)
       → length out' ≡ 16 → Is (read_into v out') r m' → (r ≡ 5) × (m' ≡ out')
-  into_damaged v out' r m' i d s l q = agree q (into_refused v out' l 5 (damaged w v i d s accepted.1) (omega arith))
+  into_damaged v out' r m' i d s l q = agree q (into_refused v out' l CrcWrong (damaged w v i d s accepted.1))
 
   -- of stream types 2 and 3
   module _ (above : 2 ≤ get_or m 5 0) where

@@ -32,7 +32,9 @@ use Rattle.header_bytes.specs.Bytes.{header_bytes}
 use Rattle.payload.specs.Answers.{written_header, told, reading, shown}
 use Rattle.both_ways.specs.Damage.{OneBit, OddIn, PartSeen}
 use Rattle.fields.specs.declared.Header.{Header}
-use Rattle.payload.specs.declared.Reading.TheVariants.{Accepted, Refused}
+use Rattle.std.specs.Prelude.{Ok, Err}
+use Rattle.ground.specs.Refusals.{status}
+use Rattle.ground.specs.declared.refusal.Refusal.TheVariants.{CrcWrong}
 use Rattle.fields.proofs.Faults.{Readable, read_0, readable}
 use Rattle.payload.proofs.Answers.{tells_refusal, tells_header, header_told, shows, told_inj}
 use Rattle.both_ways.proofs.WaysBack.{header_told_after, header_after, shown_after, write_again}
@@ -50,7 +52,7 @@ use Rattle.payload.proofs.read_into.Reads as read_into_reads
 
 -- after a call write(kind, id, count, payload, null, word) that answered 0
 module _ (κs : Lfts 3) (a : ArgsD write.signature κs) (r : ResD write.signature κs) (s : AtExit (ended_of 3 write_kinds.ps write_kinds.r) κs)
-    (did : write_reads.Post κs a r s) (zero : r ≡ 0) where
+    (did : write_reads.Post κs a r s) (zero : status r ≡ 0) where
   abbrev kind : ℕ
   kind = a.0
 
@@ -62,39 +64,39 @@ module _ (κs : Lfts 3) (a : ArgsD write.signature κs) (r : ResD write.signatur
 
   -- read(word) gives id and kind, RFU and Encap_Ver 0, and of type 2 that all four parts hold
   pub read_after_write : (κt : Lfts 1) (b : ArgsD read.signature κt) (h : ResD read.signature κt) (t : AtExit (ended_of 1 read_kinds.ps read_kinds.r) κt)
-      → b.0.now ≡ left → read_reads.Post κt b h t → h ≡ Accepted (written_header kind id)
+      → b.0.now ≡ left → read_reads.Post κt b h t → h ≡ Ok (written_header kind id)
   read_after_write κt b h t e p =
-      told_inj h (Accepted (written_header kind id))
-      (p.0 ∙ ap reading e ∙ sym (header_told_after kind id a.1.1.0 a.1.1.1.0.now a.1.1.1.1.0.now a.1.1.1.1.1.0.now r left did.0 zero did.1))
+      told_inj h (Ok (written_header kind id))
+      (p.0 ∙ ap reading e ∙ sym (header_told_after kind id a.1.1.0 a.1.1.1.0.now a.1.1.1.1.0.now a.1.1.1.1.1.0.now (status r) left did.0 zero did.1))
 
   -- payload_of(word) gives the payload, of type 2 with the null packets behind it
   pub payload_after_write : (κt : Lfts 1) (b : ArgsD payload_of.signature κt) (q : ResD payload_of.signature κt)
       (t : AtExit (ended_of 1 payload_of_kinds.ps payload_of_kinds.r) κt)
       → b.0.now ≡ left → payload_of_reads.Post κt b q t → q.now ≡ packet_of kind a.1.1.0 a.1.1.1.0.now a.1.1.1.1.0.now
   payload_after_write κt b q t e p =
-      p ∙ ap shown e ∙ shown_after kind id a.1.1.0 a.1.1.1.0.now a.1.1.1.1.0.now a.1.1.1.1.1.0.now r left did.0 zero did.1
+      p ∙ ap shown e ∙ shown_after kind id a.1.1.0 a.1.1.1.0.now a.1.1.1.1.0.now a.1.1.1.1.1.0.now (status r) left did.0 zero did.1
 
   -- read_into(word, header) answers 0 and leaves that header in a lent 16 bytes
   pub read_into_after_write : (κt : Lfts 2) (b : ArgsD read_into.signature κt) (n : ResD read_into.signature κt)
       (t : AtExit (ended_of 2 read_into_kinds.ps read_into_kinds.r) κt)
       → b.0.now ≡ left → length b.1.0.now ≡ 16 → read_into_reads.Post κt b n t
-      → (n ≡ 0) × (t.1.0.now ≡ header_bytes (written_header kind id))
+      → (status n ≡ 0) × (t.1.0.now ≡ header_bytes (written_header kind id))
   read_into_after_write κt b n t e l p =
-      header_after kind id a.1.1.0 a.1.1.1.0.now a.1.1.1.1.0.now a.1.1.1.1.1.0.now r left did.0 zero did.1
-      b.0.now b.1.0.now t.1.0.now n e l p
+      header_after kind id a.1.1.0 a.1.1.1.0.now a.1.1.1.1.0.now a.1.1.1.1.1.0.now (status r) left did.0 zero did.1
+      b.0.now b.1.0.now t.1.0.now (status n) e l p
 
   -- a word of 1,536 bytes that differs from it in one of the header bits that the CRC covers alone, be it of the stream type, is refused with 5,
   -- unless the change makes type 3 of type 1: there the CRC covers what was payload
   pub refused_where_sent_damaged : (κt : Lfts 1) (b : ArgsD read.signature κt) (k : ResD read.signature κt) (t : AtExit (ended_of 1 read_kinds.ps read_kinds.r) κt) (i : ℕ)
-      → OneBit left b.0.now i → (kind ≡ 1 → kind_of b.0.now ≡ 3 → ⊥) → read_reads.Post κt b k t → k ≡ Refused 5
+      → OneBit left b.0.now i → (kind ≡ 1 → kind_of b.0.now ≡ 3 → ⊥) → read_reads.Post κt b k t → k ≡ Err CrcWrong
   refused_where_sent_damaged κt b k t i d n p =
-      told_inj k (Refused 5)
-      (p.0 ∙ sym (tells_refusal b.0.now 5
-      (written_damaged kind id a.1.1.0 a.1.1.1.0.now a.1.1.1.1.0.now a.1.1.1.1.1.0.now r left did.0 zero did.1 b.0.now i d n) (omega arith)))
+      told_inj k (Err CrcWrong)
+      (p.0 ∙ sym (tells_refusal b.0.now CrcWrong
+      (written_damaged kind id a.1.1.0 a.1.1.1.0.now a.1.1.1.1.0.now a.1.1.1.1.1.0.now (status r) left did.0 zero did.1 b.0.now i d n)))
 
 -- after a call read(word) that gave a header
 module _ (κs : Lfts 1) (a : ArgsD read.signature κs) (r : ResD read.signature κs) (s : AtExit (ended_of 1 read_kinds.ps read_kinds.r) κs)
-    (saw : read_reads.Post κs a r s) (h : Header) (found : r ≡ Accepted h) where
+    (saw : read_reads.Post κs a r s) (h : Header) (found : r ≡ Ok h) where
   abbrev word : List ℕ
   word = a.0.now
 
@@ -113,22 +115,22 @@ module _ (κs : Lfts 1) (a : ArgsD read.signature κs) (r : ResD read.signature 
       → b.0.now ≡ word → payload_of_reads.Post κt b q t
       → c.0 ≡ h.kind → c.1.0 ≡ h.id → (c.0 ≡ 2 → c.1.1.0 ≡ 8) → c.1.1.1.0.now ≡ q.now → (c.0 ≡ 2 → length c.1.1.1.1.0.now ≡ 188)
       → length c.1.1.1.1.1.0.now ≡ 1536 → write_reads.Post κu c n u
-      → (n ≡ 0) × (drop 1532 u.1.1.1.1.1.0.now ≡ drop 1532 word) × (c.0 ≡ 1 → u.1.1.1.1.1.0.now ≡ word)
+      → (status n ≡ 0) × (drop 1532 u.1.1.1.1.1.0.now ≡ drop 1532 word) × (c.0 ≡ 1 → u.1.1.1.1.1.0.now ≡ word)
       × (c.0 ≡ 2 → h.parity ≡ 15 → u.1.1.1.1.1.0.now ≡ word)
   unfolding header_of holding_of
   write_after_read low z κt b q t κu c n u same showed ek ei ec ep one len did =
       let f : h ≡ header_of word = facts.1 in
       let g = write_again word (readable word (sym facts.0)) saw.1 (rw (sym kind_is) low) (sym (ap (λ (x : Header). x.rfu) f) ∙ z)
-      c.0 c.1.0 c.1.1.0 c.1.1.1.0.now c.1.1.1.1.0.now c.1.1.1.1.1.0.now n u.1.1.1.1.1.0.now
+      c.0 c.1.0 c.1.1.0 c.1.1.1.0.now c.1.1.1.1.0.now c.1.1.1.1.1.0.now (status n) u.1.1.1.1.1.0.now
       (ek ∙ kind_is) (ei ∙ ap (λ (x : Header). x.id) f) (ep ∙ showed ∙ ap shown same) ec one len did.0 in
       (g.0, g.1, g.2, λ two p. g.3 two (sym (choose_true (held_of word) 0 (has_2 (kind_of word) (sym (ek ∙ kind_is) ∙ two))) ∙ sym (ap (λ (x : Header). x.parity) f) ∙ p))
 
   -- a word of 1,536 bytes that differs from it in one of the header bits that the CRC covers alone is refused with 5, where its stream type
   -- has as many of them
   pub refused_where_damaged : (κt : Lfts 1) (b : ArgsD read.signature κt) (k : ResD read.signature κt) (t : AtExit (ended_of 1 read_kinds.ps read_kinds.r) κt) (i : ℕ)
-      → OneBit word b.0.now i → covered (kind_of b.0.now) ≡ covered (kind_of word) → read_reads.Post κt b k t → k ≡ Refused 5
+      → OneBit word b.0.now i → covered (kind_of b.0.now) ≡ covered (kind_of word) → read_reads.Post κt b k t → k ≡ Err CrcWrong
   refused_where_damaged κt b k t i d span p =
-      told_inj k (Refused 5) (p.0 ∙ sym (tells_refusal b.0.now 5 (damaged word b.0.now i d span (readable word (sym facts.0))) (omega arith)))
+      told_inj k (Err CrcWrong) (p.0 ∙ sym (tells_refusal b.0.now CrcWrong (damaged word b.0.now i d span (readable word (sym facts.0)))))
 
   -- of stream types 2 and 3
   module _ (above : 2 ≤ h.kind) where
@@ -163,7 +165,7 @@ module _ (κs : Lfts 1) (a : ArgsD read.signature κs) (r : ResD read.signature 
         let held-v : holding_of v ≡ held_of v = choose_true (held_of v) 0 (ap has_parity kind_v ∙ has) in
         record {
           now = header_of v;
-          read = told_inj q (Accepted (header_of v)) (p.0 ∙ sym (tells_header v (header_of v) (read_0 v sound) refl));
+          read = told_inj q (Ok (header_of v)) (p.0 ∙ sym (tells_header v (header_of v) (read_0 v sound) refl));
           rfu = same_rfu word v k d has ∙ sym (ap (λ (x : Header). x.rfu) facts.1);
           id = same_behind word v k d 12260 8 (omega arith) (omega arith) ∙ sym (ap (λ (x : Header). x.id) facts.1);
           kind = kind_v ∙ sym kind_is;

@@ -33,7 +33,7 @@ use Rattle.encapsulation.proofs.Answers.{writes, wrote, carried_length, packet_w
 use Rattle.fields.specs.Report.{no_header_at, holding_of, header_of}
 use Rattle.header_bytes.specs.Bytes.{header_bytes}
 use Rattle.payload.specs.Answers.{written_header, told, reading, shown, read_into}
-use Rattle.payload.specs.declared.Reading.TheVariants.{Accepted}
+use Rattle.std.specs.Prelude.{Ok}
 use Rattle.fields.proofs.Faults.{Readable, read_0, no_address}
 use Rattle.payload.proofs.Answers.{tells_header, shows, into_done}
 
@@ -110,7 +110,7 @@ module _ (kind id : ℕ) (p : List ℕ) (k : kind ≤ 2) (i : id < 256) (n : len
       cc (sym rfu_is, sym (id_back kind id 0 p room i), sym type_is, sym (version_back kind id 0 p room), sym parity_is, sym a)
 
   -- its header is told
-  pub header_back : told (Accepted (written_header kind id)) ≡ reading (word_of kind id p)
+  pub header_back : told (Ok (written_header kind id)) ≡ reading (word_of kind id p)
   header_back = tells_header (word_of kind id p) (written_header kind id) (read_0 (word_of kind id p) read_back) header_is
 
   -- its packet is shown
@@ -144,7 +144,7 @@ module _ (kind id count : ℕ) (p null word : List ℕ) (r : ℕ) (m : List ℕ)
   size = carried_length kind count p null (length word) could
 
   -- the header that is told
-  pub header_told_after : told (Accepted (written_header kind id)) ≡ reading m
+  pub header_told_after : told (Ok (written_header kind id)) ≡ reading m
   header_told_after = header_back kind id (packet_of kind count p null) could.kind_is i size ∙ ap reading (sym left)
 
   -- reading the header into 16 bytes answers 0 and leaves that header

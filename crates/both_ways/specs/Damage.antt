@@ -1,13 +1,12 @@
 -- Words that differ from another in their header, or within one part: what the theorems about damage speak of.
 -- Assumes nothing.
-use Rattle.std.specs.Prelude.{ℕ, ◌+◌, ◌-◌, ◌*◌, ◌%◌, ◌^◌, ◌≤◌, ◌<◌, ◌≡◌, List, length, get_or, take, drop}
+use Rattle.std.specs.Prelude.{ℕ, ◌+◌, ◌-◌, ◌*◌, ◌%◌, ◌^◌, ◌≤◌, ◌<◌, ◌≡◌, List, length, get_or, take, drop, Result, Ok}
 use Rattle.bits.specs.Places.{bit_at}
 use Rattle.parity.specs.Part.{received}
 use Rattle.parity.specs.Claims.{distance}
 use Rattle.infoword.specs.Suffix.{kind_of, covered}
 use Rattle.fields.specs.declared.Header.{Header}
-use Rattle.payload.specs.declared.Reading.{Reading}
-use Rattle.payload.specs.declared.Reading.TheVariants.{Accepted}
+use Rattle.ground.specs.declared.refusal.Refusal.{Refusal}
 
 -- v is w with another bit i of those that the CRC covers in w, from RFU to Encap_Ver
 pub record OneBit (w v : List ℕ) (i : ℕ) : Type 0 where
@@ -29,9 +28,9 @@ pub record OddIn (w v : List ℕ) (k : ℕ) : Type 0 where
   pub odd : distance (received w k) (received v k) % 2 ≡ 1
 
 -- the answer is a header with the fields of h, and the parity of h less the bit of part k
-pub record PartSeen (h : Header) (r : Reading) (k : ℕ) : Type 0 where
+pub record PartSeen (h : Header) (r : Result Header Refusal) (k : ℕ) : Type 0 where
   pub now : Header
-  pub read : r ≡ Accepted now
+  pub read : r ≡ Ok now
   pub rfu : now.rfu ≡ h.rfu
   pub id : now.id ≡ h.id
   pub kind : now.kind ≡ h.kind

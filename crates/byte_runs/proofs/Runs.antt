@@ -1,13 +1,14 @@
 -- Laws of a copy to a place, and of one byte from a place on.
 -- Assumes nothing.
-use Prim.Native.Nat.{ℕ, suc, ◌+◌, ◌-◌, ◌≤◌, ◌<◌}
+use Prim.Native.Nat.{ℕ, ◌+◌, ◌-◌, ◌≤◌, ◌<◌}
 use mathlib.Core.Path.{◌≡◌, sym, ap, ap₂, ◌∙◌}
-use mathlib.Core.List.{List, [], ◌∷◌, ◌++◌, append_assoc, append-nil}
+use mathlib.Core.List.{List, ◌++◌, append-nil}
 use native.Mathlib.Decide.{dec_le}
 use native.Mathlib.Omega.{arith}
 use borrow.Author.Tests.{le-leb, lt-leb}
-use lib.ListN.{length, take, drop, set, replicate, length-append, length-drop, length-replicate, length-set}
-use lib.Seq.{paste, take_all, take-suc-set, length-take-le}
+use borrow.Rule.Slice.PartMut.{put_mid}
+use lib.ListN.{length, take, drop, drop_of_length-le, replicate, length-append, length-drop, length-replicate}
+use lib.Seq.{paste, take_all, length-take-le}
 use Rattle.ground.proofs.Choice.{choose_true, choose_false}
 use Rattle.byte_runs.specs.Runs.{copied, filled_from}
 
@@ -35,16 +36,12 @@ module _ (x m : List ℕ) (at : ℕ) where
         | no h ↦ ap length (copied_not (omega arith))
       ]
 
--- one place filled, and the rest to be: the same as all of it
-pub fill_more : (m : List ℕ) (i b : ℕ) → i < length m → filled_from (set m i b) (i + 1) b ≡ filled_from m i b
+-- all from a place on is filled
+pub filled_is : (m : List ℕ) (at b : ℕ) {x : List ℕ} → x ≡ replicate (length m - at) b → put_mid at (length m - at) m x ≡ filled_from m at b
 unfolding filled_from
-fill_more m i b h =
-    let e : i + 1 ≡ suc i = omega arith in
-    let n : length m - i ≡ suc (length m - suc i) = omega arith in
-    ap₂ (λ (k j : ℕ). take k (set m i b) ++ replicate (j - k) b) e (length-set m i b)
-    ∙ ap (λ (l : List ℕ). l ++ replicate (length m - suc i) b) (take-suc-set m i b h)
-    ∙ append_assoc (take i m) (b ∷ []) (replicate (length m - suc i) b)
-    ∙ ap (λ (k : ℕ). take i m ++ replicate k b) (sym n)
+filled_is m at b e =
+    ap₂ (λ (l r : List ℕ). take at m ++ (l ++ r)) e (drop_of_length-le (drop at m) (omega (arith, length-drop at m)))
+    ∙ ap (λ (l : List ℕ). take at m ++ l) (append-nil (replicate (length m - at) b))
 
 -- nothing is left to be filled
 pub fill_none : (m : List ℕ) (i b : ℕ) → length m ≤ i → filled_from m i b ≡ m

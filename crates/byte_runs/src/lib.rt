@@ -8,16 +8,11 @@ ghost use Rattle.byte_runs.specs.Runs.{copied, filled_from};
 pub fn copy(run: &[u8], out: &mut [u8], at: usize)
     ensures { out.new ≡ copied run.now out.old at }
 {
-    if out.len() < at {
-        return;
-    }
-    if out.len() - at < run.len() {
-        return;
-    }
-    let mut i = 0;
-    while i < run.len() {
-        out[at + i] = run[i];
-        i += 1;
+    if at <= out.len() && run.len() <= out.len() - at {
+        // no copy_from_slice: where the length is known at run time alone it is memmove, which opl.h does not ask for
+        for i in 0..run.len() {
+            out[at + i] = run[i];
+        }
     }
 }
 
@@ -25,10 +20,8 @@ pub fn copy(run: &[u8], out: &mut [u8], at: usize)
 pub fn fill(out: &mut [u8], at: usize, byte: u8)
     ensures { out.new ≡ filled_from out.old at byte }
 {
-    let mut i = at;
-    while i < out.len() {
-        out[i] = byte;
-        i += 1;
+    if at < out.len() {
+        out[at..].fill(byte);
     }
 }
 
@@ -36,5 +29,5 @@ pub fn fill(out: &mut [u8], at: usize, byte: u8)
 pub fn two(high: u8, low: u8) -> usize
     ensures { (result ≡ high * 256 + low) × (high < 256) × (low < 256) }
 {
-    high as usize * 256 + low as usize
+    usize::from(u16::from_be_bytes([high, low]))
 }

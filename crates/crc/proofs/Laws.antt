@@ -7,8 +7,7 @@ use native.Mathlib.Nat.{mod-lt, mul-le-mul_right, pow-suc}
 use native.Mathlib.Numerals.{add-one}
 use native.Mathlib.Omega.{arith}
 use lib.Bits.{xor_lt}
-use lib.Pow.{pow_pos, ones_sub-lt, shl_exact}
-use lib.Dec.{lit<}
+use lib.Pow.{pow_pos, ones_sub-lt}
 use Rattle.ground.specs.Table.{tab}
 use Rattle.ground.proofs.Table.{tab_snoc}
 use Rattle.crc.specs.Crc.{clock, clocks, crc_of}
@@ -19,9 +18,6 @@ twice_top zero h = absurd (omega arith)
 twice_top (suc n) h =
     let e : suc n - 1 ≡ n = omega arith in
     rw e (sym (pow-suc 2 n))
-
-pub top_is : (n : ℕ) → 0 < n → n ≤ 16 → 1 * 2 ^ (n - 1) % 2 ^ 32 ≡ 2 ^ (n - 1)
-top_is n h l = shl_exact {a = 1} 1 (n - 1) 32 (lit< tt) (omega arith) ∙ omega arith
 
 pub clock_lt : (n g r b : ℕ) → 0 < n → g < 2 ^ n → clock (2 ^ (n - 1)) g r b < 2 ^ n
 unfolding clock

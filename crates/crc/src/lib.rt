@@ -30,24 +30,22 @@ fn crc(word: &[u8], at: usize, n: usize, width: u32, poly: u32) -> u32
     let top = top_of(width);
     let ones = top * 2 - 1;
     let mut r = ones;
-    let mut i: usize = 0;
-    while i < n {
+    for i in 0..n {
         r = clocked(top, poly, r, bits::bit_from(word, at, i));
-        i += 1;
     }
     ones - r
 }
 
-// The CRC-8 over the n bits at a place.
+// The CRC-8 over the n bits at a place. Both widths are one call of one function: a const parameter would say no more than its arguments do.
 pub fn crc8(word: &[u8], at: usize, n: usize) -> u8
     ensures { result ≡ crc8_of word.now at n }
 {
-    (crc(word, at, n, 8, 0x2F) % 256) as u8
+    crc(word, at, n, 8, 0x2F) as u8
 }
 
 // The CRC-12 over the n bits at a place.
 pub fn crc12(word: &[u8], at: usize, n: usize) -> u16
     ensures { result ≡ crc12_of word.now at n }
 {
-    (crc(word, at, n, 12, 0x80F) % 65536) as u16
+    crc(word, at, n, 12, 0x80F) as u16
 }

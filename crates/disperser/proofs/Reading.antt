@@ -3,13 +3,13 @@
 use Prim.Native.Nat.{ℕ, suc, ◌+◌, ◌-◌, ◌*◌, ◌/◌, ◌%◌, ◌≤◌, ◌<◌}
 use mathlib.Core.Path.{◌≡◌, sym, ap, ap₂, ◌∙◌}
 use mathlib.Core.List.{List}
-use native.Mathlib.Nat.{mod-lt, mul_assoc, add-mul, suc-mul, mul-le-mul_right, mod-eq_of_lt, zero-add}
+use native.Mathlib.Nat.{mod-lt, mul_assoc, add-mul, suc-mul, mul-le-mul, mul-le-mul_right, mod-eq_of_lt, zero-add}
 use native.Mathlib.Decide.{dec_lt}
 use native.Mathlib.Omega.{arith}
 use lib.ListN.{length, get_or, take, drop, length-drop}
 use lib.Seq.{paste, get_or-take, get_or-drop, length-take-le}
 use Rattle.ground.specs.Table.{tab}
-use Rattle.ground.proofs.Table.{length_tab, get_or_tab}
+use Rattle.ground.proofs.Table.{get_or_tab}
 use Rattle.byte_runs.specs.Runs.{copied}
 use Rattle.byte_runs.proofs.Runs.{copied_all}
 use Rattle.slots.specs.declared.Profile.{Profile}
@@ -22,7 +22,18 @@ use Rattle.disperser.specs.Inside.{Gathers}
 use Rattle.slots.proofs.Places.{row_of, col_of, in_table}
 use Rattle.slots.proofs.Collector.{collected_once}
 use Rattle.slots.proofs.Ring.{paste_in, paste_before}
-use Rattle.disperser.proofs.Dispersing.{units_bound, ring_bound}
+
+-- ---- the greatest numbers that there are
+
+units_bound : (slots units : ℕ) → slots < 65536 → units < 256 → slots * units ≤ 16777216
+units_bound slots units h k =
+    let s : slots ≤ 65536 = omega arith in
+    let u : units ≤ 256 = omega arith in
+    let m : slots * units ≤ 65536 * 256 = mul-le-mul s u in
+    m
+
+ring_bound : (rows bytes : ℕ) → rows ≤ 65536 → bytes ≤ 1073741824 → rows * bytes ≤ 70368744177664
+ring_bound rows bytes h k = let m : rows * bytes ≤ 65536 * 1073741824 = mul-le-mul h k in m
 
 -- ---- the delays
 
@@ -106,9 +117,6 @@ module _ (y : Way) (delays : List ℕ) (f : ℕ) (ring out : List ℕ) (h : Gath
   ring_most =
       let m : depth y * frame_bytes y ≤ 70368744177664 = ring_bound (depth y) (frame_bytes y) (omega (arith, h.shallow)) (omega (arith, units_most)) in
       omega (arith, h.whole)
-
-  pub delays_long : length delays ≡ 32
-  delays_long = ap length h.ours ∙ length_tab (tap_delay y.profile) 0 32
 
   module _ (j : ℕ) (inside : j < frame_units y) (at : ℕ) (e : at ≡ slot_at y j * y.units + unit_at y j) where
     pub delay_is : get_or delays (at % y.units % 32) 0 ≡ tap_delay y.profile (unit_at y j)

@@ -21,20 +21,18 @@ fn row_back(depth: usize, f: usize, d: usize) -> usize
 }
 
 // The pipe's frame f, unit by unit out of the ring.
-fn collect(y: Way, delays: &[u16], f: usize, ring: &[u8], out: &mut [u8])
-    requires { Gathers y delays.now f ring.now out.old }
-    ensures { out.new ≡ tab (byte_from y f ring.now) 0 (frame_bytes y) }
+fn collect(y: &Way, delays: &[u16; 32], f: usize, ring: &[u8], out: &mut [u8])
+    requires { Gathers y.now delays.now f ring.now out.old }
+    ensures { out.new ≡ tab (byte_from y.now f ring.now) 0 (frame_bytes y.now) }
 {
     let units = y.units as usize;
     let whole = y.slots as usize * units;
     let depth = y.profile.greatest as usize + 1;
-    let mut j = 0;
-    while j < whole {
+    for j in 0..whole {
         let at = slots::unit_for(y.regrouping, y.slots, y.units, j as u32);
         let row = row_back(depth, f, delays[at % units % 32] as usize);
         let from = (row * whole + at) * UNIT;
         byte_runs::copy(&ring[from..from + UNIT], out, j * UNIT);
-        j += 1;
     }
 }
 
@@ -43,12 +41,8 @@ pub fn disperse(y: Way, frame: u32, ring: &[u8], out: &mut [u8])
     ensures { out.new ≡ dispersing y frame ring.now out.old }
 {
     let size = y.slots as usize * y.units as usize * UNIT;
-    if out.len() != size {
-        return;
+    let frames = y.profile.greatest as usize + 1;
+    if out.len() == size && ring.len() == frames * size {
+        collect(&y, &slots::tap_delays(y.profile), frame as usize, ring, out);
     }
-    if ring.len() != (y.profile.greatest as usize + 1) * size {
-        return;
-    }
-    let delays = slots::tap_delays(y.profile);
-    collect(y, &delays, frame as usize, ring, out);
 }

@@ -4,18 +4,30 @@ use Prim.Native.Nat.{ℕ, zero, suc, ◌+◌, ◌-◌, ◌*◌, ◌≤◌, ◌<�
 use mathlib.Core.Path.{◌≡◌, refl, sym, ap, ap₂, ◌∙◌}
 use mathlib.Core.List.{List, ◌++◌, append-nil, append_assoc}
 use native.Mathlib.Omega.{arith}
-use lib.ListN.{length, take, drop, take-append-drop, length-append, length-drop}
-use lib.Seq.{take_all, paste, length-take-le}
-use Rattle.ground.proofs.Copy.{over, paste_behind}
+use borrow.Rule.Slice.PartMut.{put_mid, Post-is}
+use lib.ListN.{length, take, drop, replicate, take-append-drop, length-append, length-drop}
+use lib.Seq.{take_at, drop_at, paste, length-take-le}
+use Rattle.ground.proofs.Copy.{paste_behind}
 use Rattle.infoword.specs.Word.{filled}
-use Rattle.infoword.proofs.Written.{filled_length}
 use Rattle.encapsulation.specs.Writing.{repeated}
 use Rattle.encapsulation.specs.Steps.{filled_up}
 
--- all bytes
-pub filled_all : (n : ℕ) (p w : List ℕ) → length p ≤ n → over w (filled n p) n ≡ filled n p ++ drop n w
-filled_all n p w h =
-    ap (λ (l : List ℕ). l ++ drop n w) (take_all n (filled n p) (omega (arith, filled_length n p h)))
+-- the payload, and zeros behind it, put over the first bytes of a word
+pub filled_by : (p x zeros w : List ℕ) → length p ≤ 1532 → length w ≡ 1536 → x ≡ p
+    → zeros ≡ replicate (length (take (1532 - length p) (drop (length p) (x ++ drop (length p) w)))) 0
+    → put_mid (length p) (1532 - length p) (x ++ drop (length p) w) zeros ≡ filled 1532 p ++ drop 1532 w
+unfolding filled
+filled_by p x zeros w h l e z =
+    let n : ℕ = length p in
+    let behind : drop n (p ++ drop n w) ≡ drop n w = drop_at p (drop n w) n refl in
+    let room : length (take (1532 - n) (drop n w)) ≡ 1532 - n = length-take-le (1532 - n) (drop n w) (rw length-drop (omega arith)) in
+    let filling : zeros ≡ replicate (1532 - n) 0 =
+    z ∙ ap (λ (y : List ℕ). replicate (length (take (1532 - n) (drop n (y ++ drop n w)))) 0) e
+    ∙ ap (λ (y : List ℕ). replicate (length (take (1532 - n) y)) 0) behind ∙ ap (λ (k : ℕ). replicate k 0) room in
+    ap (λ (y : List ℕ). put_mid n (1532 - n) (y ++ drop n w) zeros) e
+    ∙ ap₂ (λ (y k : List ℕ). y ++ k) (take_at p (drop n w) n refl)
+    (ap₂ (λ (y k : List ℕ). y ++ k) filling (ap (drop (1532 - n)) behind ∙ Post-is n 1532 w h))
+    ∙ sym (append_assoc p (replicate (1532 - n) 0) (drop 1532 w))
 
 -- one null packet more
 repeated_more : (n : ℕ) (p : List ℕ) → repeated (n + 1) p ≡ repeated n p ++ p
@@ -54,11 +66,6 @@ module _ (w null : List ℕ) (count : ℕ) (room : length w ≡ 1536) (one : len
       let a : length (take (188 * count) w) ≡ 188 * count = length-take-le (188 * count) w (omega arith) in
       let b : length (repeated (k - count) null) ≡ 188 * (k - count) = repeated_length (k - count) null one in
       length-append (take (188 * count) w) (repeated (k - count) null) ∙ omega arith
-
-  pub fill_room : (k : ℕ) (m : List ℕ) → Filled w null count k m → length m ≡ 1536
-  fill_room k m f =
-      ap length f.is ∙ length-append (take (188 * count) w ++ repeated (k - count) null) (drop (188 * k) w)
-      ∙ omega (arith, front_length k f.least f.most, length-drop (188 * k) w, f.most)
 
   pub fill_more : (k : ℕ) (m m' : List ℕ) → k < 8 → Filled w null count k m → m' ≡ paste m (188 * k) null 188 → Filled w null count (k + 1) m'
   fill_more k m m' h f e =

@@ -6,20 +6,27 @@ mod transport;
 
 ghost use Rattle.std.specs.Prelude.{◌<◌};
 ghost use Rattle.ground.specs.Outcome.{Is};
+ghost use Rattle.ground.specs.Refusals.{status};
 ghost use Rattle.encapsulation.specs.Writing.{written};
 
+use ground::refusal::Refusal;
+
 // Writes the payload word of a stream type (0 with an empty payload, 1 with 1,532 bytes, 2 with count packets of 188 bytes, and null
-// packets behind them) into 1,536 bytes and returns 0; a refusal touches nothing.
-pub fn write(kind: u32, id: u8, count: u32, payload: &[u8], null: &[u8], word: &mut [u8]) -> u8
-    ensures { Is (written kind id count payload.now null.now word.old) result word.new × (id < 256) }
+// packets behind them) into 1,536 bytes; or says why not, and touches nothing. The type is a number, as C hands it in.
+pub fn write(
+    kind: u32,
+    id: u8,
+    count: u32,
+    payload: &[u8],
+    null: &[u8],
+    word: &mut [u8],
+) -> Result<(), Refusal>
+    ensures { Is (written kind id count payload.now null.now word.old) (status result) word.new × (id < 256) }
 {
-    let n = write_faults::refusal(kind, count, payload.len(), null.len(), word.len());
-    if 0 < n {
-        return n;
-    }
+    write_faults::refusal(kind, count, payload.len(), null.len(), word.len())?;
     packet::fill(payload, word);
     transport::carry(kind, count, null, word);
     // the end of RFU 0, STS_ID, STS_Stream_Type_ID, Encap_Ver 0 (tables 2 to 4)
-    ending::close(word, id as u32 * 64 + kind * 8);
-    0
+    ending::close(word, u32::from(id) * 64 + kind * 8);
+    Ok(())
 }

@@ -6,14 +6,13 @@ ghost use Rattle.infoword.specs.Steps.{closing};
 
 use ground::PAYLOAD_WORD;
 use infoword::LAST;
-use wide::Wide;
 
 // In the last four bytes as a number: one more than 18 bits of header hold, and the weights of their lowest bit and of the CRC's.
-const HEAD_END: u64 = 1 << 18;
+const HEAD_END: u32 = 1 << 18;
 
-const HEAD: u64 = 1 << 14;
+const HEAD: u32 = 1 << 14;
 
-const CRC: u64 = 1 << 6;
+const CRC: u32 = 1 << 6;
 
 // The last four bytes of a word: the low 18 bits of a number as the end of the header, the CRC that is due in the word with them, and
 // the spare bits.
@@ -23,14 +22,9 @@ pub fn close(word: &mut [u8], head: u32)
     if word.len() != PAYLOAD_WORD {
         return;
     }
-    let last = Wide {
-        acc: 0,
-        used: 0,
-        at: LAST,
-    };
     // no CRC at first, and the spare bits
-    let bare = head as u64 % HEAD_END * HEAD;
-    wide::put(word, last, bare, 32);
-    let crc = infoword::crc(word);
-    wide::put(word, last, bare + crc as u64 * CRC, 32);
+    let bare = head % HEAD_END * HEAD;
+    word[LAST..].copy_from_slice(&bare.to_be_bytes());
+    let crc = u32::from(infoword::crc(word));
+    word[LAST..].copy_from_slice(&(bare + crc * CRC).to_be_bytes());
 }

@@ -1,13 +1,12 @@
--- The search behind refusal 9, one step of it, and the three in their order.
+-- The search behind refusal 9, and the three in their order.
 -- Assumes nothing.
-use Prim.Native.Nat.{ℕ, ◌+◌, ◌*◌, ◌%◌, ◌≤◌, ◌<◌}
-use mathlib.Core.Path.{◌≡◌, sym, ap, ap₂, ◌∙◌, subst}
-use mathlib.Core.Bool.{Bool, true, false, not}
+use Prim.Native.Nat.{ℕ, ◌+◌, ◌*◌, ◌%◌}
+use mathlib.Core.Path.{◌≡◌, sym, ap₂, ◌∙◌}
+use mathlib.Core.Bool.{Bool, not}
 use mathlib.Core.List.{List, [], ◌∷◌}
 use lib.Dec.{eqb, ltb}
-use lib.ListN.{drop}
-use Rattle.ground.specs.Choice.{both, any, Fault, refuse, first_of}
-use Rattle.ground.proofs.Choice.{any_found, any_more, any_done}
+use Rattle.std.specs.List.{list_any, range_with_len}
+use Rattle.ground.specs.Choice.{both, Fault, refuse, first_of}
 use Rattle.bits.specs.Places.{fields_at}
 use Rattle.patterns.specs.Rates.{units_of}
 use Rattle.description.specs.Rows.{total}
@@ -17,7 +16,7 @@ use Rattle.description.specs.Tests.{width_wrong, width_fault, tap_fault, id_faul
 use Rattle.views.specs.Rows.{row_at, rows_at}
 use Rattle.views.specs.View.{lists_at}
 use Rattle.views.specs.declared.View.{View}
-use Rattle.views.proofs.Rows.{rows_length, rows_get, first_fields}
+use Rattle.views.proofs.Rows.{any_tab, first_fields}
 use Rattle.records.specs.Records.{pipe_of, pipe_at}
 use Rattle.records.specs.declared.Pipe.{Pipe}
 use Rattle.sheets.specs.Owned.{owned_at}
@@ -27,31 +26,10 @@ use Rattle.faults.specs.Faults.{own_lists, list_fault}
 abbrev pub wide : Pipe → Bool
 wide q = both (ltb q.pattern 28) (not (eqb (q.width % units_of q.pattern) 0))
 
-module _ (w : List ℕ) (at p : ℕ) where
-  pub pipe_wide : (i : ℕ) (q : Pipe) → q ≡ pipe_at w at i → width_wrong (row_at table16 w (at + 48 * i)) ≡ wide q
-  unfolding width_wrong pipe_at pipe_of
-  pipe_wide i q e = ap wide (sym e)
-
-  -- ---- 9: the pipes from the pipe i on
-  pub widths_found : (i : ℕ) (q : Pipe) → i < p → width_fault (rows_at table16 48 p w at) ≡ any width_wrong (drop i (rows_at table16 48 p w at)) → q ≡ pipe_at w at i
-      → wide q ≡ true → width_fault (rows_at table16 48 p w at) ≡ true
-  widths_found i q h inv e t =
-      let rows : List (List ℕ) = rows_at table16 48 p w at in
-      any_found width_wrong rows [] (width_fault rows) i inv (subst (λ (n : ℕ). i < n) (sym (rows_length table16 48 w at p)) h)
-      (ap width_wrong (rows_get table16 48 w at p i h) ∙ pipe_wide i q e ∙ t)
-
-  pub widths_more : (i : ℕ) (q : Pipe) → i < p → width_fault (rows_at table16 48 p w at) ≡ any width_wrong (drop i (rows_at table16 48 p w at)) → q ≡ pipe_at w at i
-      → wide q ≡ false → width_fault (rows_at table16 48 p w at) ≡ any width_wrong (drop (i + 1) (rows_at table16 48 p w at))
-  widths_more i q h inv e t =
-      let rows : List (List ℕ) = rows_at table16 48 p w at in
-      any_more width_wrong rows [] (width_fault rows) i inv (subst (λ (n : ℕ). i < n) (sym (rows_length table16 48 w at p)) h)
-      (ap width_wrong (rows_get table16 48 w at p i h) ∙ pipe_wide i q e ∙ t)
-
-  pub widths_done : (i : ℕ) → p ≤ i → width_fault (rows_at table16 48 p w at) ≡ any width_wrong (drop i (rows_at table16 48 p w at))
-      → width_fault (rows_at table16 48 p w at) ≡ false
-  widths_done i h inv =
-      let rows : List (List ℕ) = rows_at table16 48 p w at in
-      any_done width_wrong rows [] (width_fault rows) i inv (subst (λ (n : ℕ). n ≤ i) (sym (rows_length table16 48 w at p)) h)
+-- 9: that of all payload pipes
+pub widths : (w : List ℕ) (at p : ℕ) → list_any (λ i. wide (pipe_at w at i)) (range_with_len 0 p) ≡ width_fault (rows_at table16 48 p w at)
+unfolding width_fault width_wrong pipe_at pipe_of rows_at
+widths w at p = any_tab width_wrong (λ i. row_at table16 w (at + 48 * i)) 0 p
 
 -- ---- the three in their order
 abbrev pub judgements : Bool → Bool → Bool → List Fault

@@ -1,17 +1,15 @@
 // What is refused of a payload word (clause 4.3), and the form of what is reported of its header.
 #![tactic(auto)]
 
-ghost use Rattle.std.specs.Prelude.{◌≡◌, ◌≤◌, ◌<◌, eqb};
+ghost use Rattle.std.specs.Prelude.{◌≡◌, ◌<◌, eqb};
 ghost use Rattle.ground.specs.Choice.{choose};
-ghost use Rattle.bits.specs.Places.{field_at};
+ghost use Rattle.ground.specs.Refusals.{status};
 ghost use Rattle.infoword.specs.Suffix.{address_of};
 ghost use Rattle.fields.specs.Report.{no_header_at, read_refusal};
 
-use ground::{
-    ADDRESS_WRONG, CRC_WRONG, ENCAP_NOT_0, LENGTH_WRONG, PAYLOAD_BLOCK, PAYLOAD_WORD, SPARE_SET,
-    TYPE_UNKNOWN,
-};
-use infoword::{IP_STREAM, STREAM_TYPE};
+use ground::refusal::Refusal;
+use ground::{PAYLOAD_BLOCK, PAYLOAD_WORD};
+use infoword::{STREAM_TYPE, StreamType};
 
 // What is reported of a word that is accepted: the fields of its header as they stand, which of its parity parts hold (bit k for part
 // k), and First_Header_Address, which is 0 for the stream types that have none.
@@ -39,60 +37,50 @@ const LAST_HEADER: u32 = 1502;
 
 const NO_HEADER: u32 = 0xFFF;
 
-// A field of at most eight bits.
-fn field(word: &[u8], at: usize, n: usize) -> u8
-    requires { n ≤ 8 }
-    ensures { result ≡ field_at word.now at n }
-{
-    bits::field(word, at, n) as u8
-}
-
-// The refusal of a word, 0 where it is accepted.
-pub fn refusal(word: &[u8]) -> u8
-    ensures { result ≡ read_refusal word.now }
+// Whether a word is accepted, or why not.
+pub fn refusal(word: &[u8]) -> Result<(), Refusal>
+    ensures { status result ≡ read_refusal word.now }
 {
     if word.len() != PAYLOAD_WORD {
-        return LENGTH_WRONG;
+        return Err(Refusal::LengthWrong);
     }
     // the six spare bits (01)
-    if field(word, PAYLOAD_BLOCK, 6) != 0 {
-        return SPARE_SET;
+    if bits::field(word, PAYLOAD_BLOCK, 6) != 0 {
+        return Err(Refusal::SpareSet);
     }
     // HeaderCRC (tables 2 to 5)
-    if field(word, HEADER_CRC, 8) != infoword::crc(word) {
-        return CRC_WRONG;
+    if bits::field(word, HEADER_CRC, 8) != u32::from(infoword::crc(word)) {
+        return Err(Refusal::CrcWrong);
     }
     // Encap_Ver (tables 2 to 5)
-    if 0 < field(word, ENCAP_VER, 3) {
-        return ENCAP_NOT_0;
+    if bits::field(word, ENCAP_VER, 3) != 0 {
+        return Err(Refusal::EncapNot0);
     }
     // STS_Stream_Type_ID (tables 2 to 5)
-    let stream_type = bits::field(word, STREAM_TYPE, 3);
-    if IP_STREAM < stream_type {
-        return TYPE_UNKNOWN;
+    let kind = bits::field(word, STREAM_TYPE, 3);
+    if StreamType::from(kind) == StreamType::Other {
+        return Err(Refusal::TypeUnknown);
     }
-    if no_header_at(address_of(word, stream_type)) {
-        return ADDRESS_WRONG;
+    // First_Header_Address (table 5)
+    if no_header_at(address_of(word, kind)) {
+        return Err(Refusal::AddressWrong);
     }
-    0
+    Ok(())
 }
 
 // First_Header_Address of type 3 (table 5), and 0 for any other.
 pub fn address_of(word: &[u8], kind: u32) -> u32
     ensures { (result ≡ choose (eqb kind 3) (address_of word.now) 0) × (result < 4096) }
 {
-    if kind == IP_STREAM {
-        return bits::field(word, FIRST_HEADER_ADDRESS, 12);
+    match StreamType::from(kind) {
+        StreamType::IpStream => bits::field(word, FIRST_HEADER_ADDRESS, 12),
+        _ => 0,
     }
-    0
 }
 
 // Whether an address is one where no header can stand, and not the one that says that there is none.
 fn no_header_at(address: u32) -> bool
     ensures { result ≡ no_header_at address }
 {
-    if address <= LAST_HEADER {
-        return false;
-    }
-    address < NO_HEADER
+    LAST_HEADER < address && address < NO_HEADER
 }

@@ -8,22 +8,21 @@ ghost use Rattle.bits.specs.Lists.{Below};
 ghost use Rattle.description.specs.Form1.{checked};
 ghost use Rattle.sheets.specs.Answers.{told};
 
-use sheets::answer::Answer;
-use views::FORM1;
+use ground::refusal::Refusal;
+use views::{Counts, FORM1};
 
 // Judges a sheet of form 1, of any length, in the order from sheet to word: 12 14 6 13 7 9 10 11.
-pub fn check(sheet: &[u8]) -> Answer
+pub fn check(sheet: &[u8]) -> Result<Counts, Refusal>
     ensures { (told result ≡ checked sheet.now) × Below 256 sheet.now }
 {
     if headers::header_wrong(sheet, FORM1) {
-        return Answer::Refused(ground::HEADER_WRONG);
+        return Err(Refusal::HeaderWrong);
     }
-    let p = bits::byte(sheet, 0);
-    let s = bits::byte(sheet, 1) as u16;
-    let d = bits::byte(sheet, 2) as u16;
-    let n = judge::record_fault(sheet, FORM1, p, s, d);
-    if n != 0 {
-        return Answer::Refused(n);
-    }
-    Answer::Accepted { p, s, d }
+    let counts = Counts {
+        p: bits::byte(sheet, 0),
+        s: bits::byte(sheet, 1) as u16,
+        d: bits::byte(sheet, 2) as u16,
+    };
+    judge::record_fault(sheet, FORM1, counts)?;
+    Ok(counts)
 }

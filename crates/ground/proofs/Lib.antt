@@ -6,3 +6,5 @@ pub mod Copy
 pub mod Fill
 pub mod Faults
 pub mod Answers
+pub mod Refusals
+pub mod Agree

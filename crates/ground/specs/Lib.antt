@@ -2,3 +2,4 @@ pub mod Outcome
 pub mod Choice
 pub mod Table
 pub mod Moves
+pub mod Refusals

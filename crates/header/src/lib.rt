@@ -6,20 +6,18 @@ ghost use Rattle.infoword.specs.Suffix.{kind_of, rfu_of};
 ghost use Rattle.fields.specs.Report.{holding_of, header_of};
 
 use fields::{ENCAP_VER, Header, STREAM_ID};
-use infoword::{IP_STREAM, RFU, RFU_WITH_PARITY, STREAM_TYPE};
+use infoword::{RFU, RFU_WITH_PARITY, STREAM_TYPE, StreamType};
 
 // RFU, by stream type: 32 bits in type 2 (table 4), 20 in type 3 (table 5), 4 in any other.
 fn rfu_of(word: &[u8], kind: u32) -> u32
     requires { kind ≡ kind_of word.now }
     ensures { result ≡ rfu_of word.now }
 {
-    if kind == IP_STREAM {
-        return bits::field(word, RFU_WITH_PARITY, 20);
+    match StreamType::from(kind) {
+        StreamType::IpStream => bits::field(word, RFU_WITH_PARITY, 20),
+        StreamType::TransportStream => bits::field(word, RFU_WITH_PARITY, 32),
+        _ => bits::field(word, RFU, 4),
     }
-    if infoword::has_parity(kind) {
-        return bits::field(word, RFU_WITH_PARITY, 32);
-    }
-    bits::field(word, RFU, 4)
 }
 
 // Which parity parts hold, by stream type: types 2 and 3 have four, any other none.
@@ -28,9 +26,10 @@ fn parity_of(word: &[u8], kind: u32) -> u8
     ensures { result ≡ holding_of word.now }
 {
     if infoword::has_parity(kind) {
-        return parts_held::held(word);
+        parts_held::held(word)
+    } else {
+        0
     }
-    0
 }
 
 // What is reported of a word.
@@ -38,17 +37,12 @@ pub fn header_of(word: &[u8]) -> Header
     ensures { result ≡ header_of word.now }
 {
     let kind = bits::field(word, STREAM_TYPE, 3);
-    let rfu = rfu_of(word, kind);
-    let id = bits::field(word, STREAM_ID, 8) as u8;
-    let version = bits::field(word, ENCAP_VER, 3) as u8;
-    let parity = parity_of(word, kind);
-    let address = fields::address_of(word, kind) as u16;
     Header {
-        rfu,
-        id,
+        rfu: rfu_of(word, kind),
+        id: bits::field(word, STREAM_ID, 8) as u8,
         kind: kind as u8,
-        version,
-        parity,
-        address,
+        version: bits::field(word, ENCAP_VER, 3) as u8,
+        parity: parity_of(word, kind),
+        address: fields::address_of(word, kind) as u16,
     }
 }

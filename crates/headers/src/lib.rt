@@ -2,75 +2,92 @@
 #![tactic(auto)]
 
 ghost use Rattle.std.specs.Prelude.{◌≡◌, ◌<◌};
-ghost use Rattle.description.specs.Sheet.{header};
+ghost use Rattle.description.specs.Sheet.{header, pipes_from, streams_from, sections_from, sheet_end};
 ghost use Rattle.description.specs.Header.{two_at, header_fault};
 
 // The bytes of multiplex and tail behind a header, and those of a payload pipe, a stream and a section.
-const MULTIPLEX_AND_TAIL: usize = 9;
+const MULTIPLEX_AND_TAIL: u16 = 9;
 
-const PIPE: usize = 6;
+const PIPE: u16 = 6;
 
-const STREAM: usize = 2;
+const STREAM: u16 = 2;
 
-const SECTION: usize = 2;
+const SECTION: u16 = 2;
+
+// Where the tables of payload pipes, streams and sections begin, and the whole length.
+#[derive(Clone, Copy)]
+struct Offsets {
+    pipes: u16,
+    streams: u16,
+    sections: u16,
+    end: u16,
+}
+
+impl Offsets {
+    // Those of a sheet with these counts, behind a header of h bytes.
+    fn of(h: u8, p: u8, s: u8, d: u8) -> Offsets
+        ensures { result ≡ record { pipes = pipes_from h; streams = streams_from h p; sections = sections_from h p s; end = sheet_end h p s d } }
+    {
+        let pipes = u16::from(h) + MULTIPLEX_AND_TAIL;
+        let streams = pipes + PIPE * u16::from(p);
+        let sections = streams + STREAM * u16::from(s);
+        Offsets {
+            pipes,
+            streams,
+            sections,
+            end: sections + SECTION * u16::from(d),
+        }
+    }
+}
 
 // The header of a sheet with these counts.
 pub fn header_of(h: u8, p: u8, s: u8, d: u8) -> [u8; 12]
     ensures { result ≡ header h p s d }
 {
-    let pipes = h as usize + MULTIPLEX_AND_TAIL;
-    let streams = pipes + PIPE * p as usize;
-    let sections = streams + STREAM * s as usize;
-    let end = sections + SECTION * d as usize;
+    let o = Offsets::of(h, p, s, d);
+    let pipes = o.pipes.to_be_bytes();
+    let streams = o.streams.to_be_bytes();
+    let sections = o.sections.to_be_bytes();
+    let end = o.end.to_be_bytes();
     [
         p,
         s,
         d,
         0,
-        (pipes / 256 % 256) as u8,
-        (pipes % 256) as u8,
-        (streams / 256 % 256) as u8,
-        (streams % 256) as u8,
-        (sections / 256 % 256) as u8,
-        (sections % 256) as u8,
-        (end / 256 % 256) as u8,
-        (end % 256) as u8,
+        pipes[0],
+        pipes[1],
+        streams[0],
+        streams[1],
+        sections[0],
+        sections[1],
+        end[0],
+        end[1],
     ]
 }
 
 // The number in two bytes of a sheet.
-fn two_at(sheet: &[u8], i: usize) -> usize
+fn two_at(sheet: &[u8], i: usize) -> u16
     requires { i < 4096 }
     ensures { result ≡ two_at sheet.now i }
 {
-    bits::byte(sheet, i) as usize * 256 + bits::byte(sheet, i + 1) as usize
+    u16::from_be_bytes([bits::byte(sheet, i), bits::byte(sheet, i + 1)])
 }
 
 // 12: whether a header of h bytes is wrong.
 pub fn header_wrong(sheet: &[u8], h: u8) -> bool
     ensures { result ≡ header_fault h sheet.now }
 {
-    let pipes = h as usize + MULTIPLEX_AND_TAIL;
-    if sheet.len() < pipes {
-        return true;
-    }
-    let streams = pipes + PIPE * bits::byte(sheet, 0) as usize;
-    let sections = streams + STREAM * bits::byte(sheet, 1) as usize;
-    let end = sections + SECTION * bits::byte(sheet, 2) as usize;
-    if bits::byte(sheet, 3) != 0 {
-        return true;
-    }
-    if two_at(sheet, 4) != pipes {
-        return true;
-    }
-    if two_at(sheet, 6) != streams {
-        return true;
-    }
-    if two_at(sheet, 8) != sections {
-        return true;
-    }
-    if two_at(sheet, 10) != end {
-        return true;
-    }
-    sheet.len() != end
+    let o = Offsets::of(
+        h,
+        bits::byte(sheet, 0),
+        bits::byte(sheet, 1),
+        bits::byte(sheet, 2),
+    );
+    sheet.len() < usize::from(o.pipes)
+        || bits::byte(sheet, 3) != 0
+        || two_at(sheet, 4) != o.pipes
+        || two_at(sheet, 6) != o.streams
+        || two_at(sheet, 8) != o.sections
+        || two_at(sheet, 10) != o.end
+        || sheet.len() != usize::from(o.end)
 }

@@ -1,9 +1,8 @@
 // What a place of the lane holds: the sum of its copies, clipped once (01, "Placement"; 02, 2026-08).
 #![tactic(auto)]
 
-ghost use Rattle.std.specs.Prelude.{◌≡◌, map, ◌+◌, ◌≤◌, ◌+ℤ◌, pos, get_or};
-ghost use Rattle.std.specs.Int.Signed.{mag};
-ghost use Rattle.held.specs.Held.{run, clip, held};
+ghost use Rattle.std.specs.Prelude.{◌≡◌, map, ◌≤◌, length};
+ghost use Rattle.held.specs.Held.{run, sum, clip, held};
 
 // The least and the greatest that a place holds: no value lacks its negative.
 const LEAST: i16 = -127;
@@ -11,62 +10,38 @@ const LEAST: i16 = -127;
 const GREATEST: i16 = 127;
 
 // A sum clipped.
-fn clip(sum: i16) -> i16
+fn clip(sum: i16) -> i8
     ensures { result ≡ clip sum }
 {
-    if sum < LEAST {
-        return LEAST;
-    }
-    if GREATEST < sum {
-        return GREATEST;
+    sum.clamp(LEAST, GREATEST) as i8
+}
+
+// The sum of values, of which there are few enough that nothing wraps.
+fn total(values: &[i8]) -> i16
+    requires { length values.now ≤ 255 }
+    ensures { result ≡ sum values.now }
+{
+    let mut sum = 0;
+    for value in values {
+        sum += i16::from(*value);
     }
     sum
 }
 
-// The value t places behind a place, and 0 past the end.
-fn value(values: &[i8], at: usize, t: u8) -> i8
-    ensures { result ≡ get_or values.now (at + t) (pos 0) }
-{
-    if values.len() <= at {
-        return 0;
-    }
-    if values.len() - at <= t as usize {
-        return 0;
-    }
-    values[at + t as usize]
-}
-
-// A sum of at most 254 values with one value more.
-fn added(sum: i16, value: i8) -> i16
-    requires { mag sum ≤ 32512 }
-    ensures { result ≡ sum +ℤ value }
-{
-    let v = value as i16;
-    sum + v
-}
-
-// What a place holds whose copies are the n values from a place on. The sum goes on as it is, beside what is held of it so far: only the whole sum is clipped.
+// What a place holds whose copies are the n values from a place on: only their whole sum is clipped.
 pub fn of(values: &[i8], at: usize, n: u8) -> i8
     ensures { result ≡ held (run values.now at n) }
 {
-    let mut sum: i16 = 0;
-    let mut held: i16 = 0;
-    let mut t = 0;
-    while t < n {
-        sum = added(sum, value(values, at, t));
-        held = clip(sum);
-        t += 1;
-    }
-    held as i8
+    let rest = &values[at.min(values.len())..];
+    let copies = &rest[..usize::from(n).min(rest.len())];
+    clip(total(copies))
 }
 
 // Each place clipped. It is a pass of its own, since the compiler makes vectors of it.
 pub fn clip_all(lane: &mut [i8])
     ensures { lane.new ≡ map clip lane.old }
 {
-    let mut i = 0;
-    while i < lane.len() {
-        lane[i] = clip(lane[i] as i16) as i8;
-        i += 1;
+    for place in lane.iter_mut() {
+        *place = clip(i16::from(*place));
     }
 }

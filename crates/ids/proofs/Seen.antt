@@ -1,6 +1,6 @@
 -- The search behind refusal 11: from the last stream to the first, with the ids that stand behind marked by their numbers.
 -- Assumes nothing.
-use Prim.Native.Nat.{ℕ, zero, suc, ◌-◌, ◌≤◌, ◌<◌}
+use Prim.Native.Nat.{ℕ, zero, suc, ◌+◌, ◌-◌, ◌*◌, ◌≤◌, ◌<◌}
 use mathlib.Core.Path.{◌≡◌, refl, sym, ap, ap₂, ◌∙◌}
 use mathlib.Core.Bool.{Bool, true, false}
 use mathlib.Core.List.{List, [], ◌∷◌}
@@ -11,7 +11,13 @@ use lib.ListN.{length, get_or, set, drop, replicate, length-set, length-replicat
 use lib.Seq.{drop-cons, get_or-set_same, get_or-set_other}
 use Rattle.ground.specs.Choice.{either, any}
 use Rattle.ground.proofs.Choice.{skip, hit}
+use Rattle.bits.specs.Places.{field_at, fields_at}
+use Rattle.bits.proofs.Places.{field_lt, fields_get}
 use Rattle.description.specs.Tests.{member, id_fault}
+
+-- the id that was read of the stream k
+pub id_read : {x : ℕ} (w : List ℕ) (at s k : ℕ) → k < s → x ≡ field_at w (at + 16 * k) 8 → (x < 256) × (x ≡ get_or (fields_at w at 16 8 s) k 0)
+id_read w at s k h e = (omega (arith, e, field_lt w (at + 16 * k) 8 (omega arith)), e ∙ sym (fields_get w at 16 8 s k h))
 
 -- the ids from the stream i on are the marked ones, and none of them stands twice
 pub record Seen (ids : List ℕ) (i : ℕ) (seen : List Bool) : Type 0 where

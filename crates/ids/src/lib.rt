@@ -10,9 +10,7 @@ pub fn id_twice(w: &[u8], at: u32, s: u16) -> bool
     ensures { result ≡ id_fault (fields_at w.now at 16 8 s) }
 {
     let mut seen = [false; 256];
-    let mut i = s as usize;
-    while 0 < i {
-        i -= 1;
+    for i in (0..s as usize).rev() {
         // STS_ID (table 18)
         let id = bits::field(w, at as usize + views::STREAM as usize * i, 8) as usize;
         if seen[id] {

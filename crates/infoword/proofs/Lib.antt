@@ -5,3 +5,4 @@ pub mod Sealing
 pub mod Written
 pub mod Again
 pub mod Agree
+pub mod Types

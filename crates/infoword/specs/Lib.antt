@@ -1,3 +1,4 @@
+pub mod Types
 pub mod Suffix
 pub mod Word
 pub mod Steps

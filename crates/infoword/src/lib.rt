@@ -3,16 +3,38 @@
 
 ghost use Rattle.std.specs.Prelude.{◌≡◌, ◌≤◌};
 ghost use Rattle.infoword.specs.Suffix.{has_parity, covered_of, header_crc};
+ghost use Rattle.infoword.specs.Types.{stream_type};
 ghost use Rattle.infoword.specs.Word.{packet_bytes};
 
-// The stream types of transparent words, of transport streams and of IP streams, and the size of their payload packets, in bytes (table
-// 1): types 2 and 3 have the same.
-pub const TRANSPARENT: u32 = 1;
+// The stream types (tables 1 to 5). No other number names one: a word that has it is refused. Functions take the number, as a word or C has it.
+#[derive(Clone, Copy, Debug, PartialEq, Eq)]
+pub enum StreamType {
+    Empty,
+    Transparent,
+    TransportStream,
+    IpStream,
+    Other,
+}
 
-pub const TRANSPORT_STREAM: u32 = 2;
+impl From<u32> for StreamType {
+    ghost from_gives = { λ kind t. t ≡ stream_type kind };
 
+    // The stream type with a number.
+    fn from(kind: u32) -> StreamType {
+        match kind {
+            0 => StreamType::Empty,
+            1 => StreamType::Transparent,
+            2 => StreamType::TransportStream,
+            3 => StreamType::IpStream,
+            _ => StreamType::Other,
+        }
+    }
+}
+
+// The number of IP streams, as it is written into a word.
 pub const IP_STREAM: u32 = 3;
 
+// The size of the payload packets of transparent words, and of transport streams and IP streams, in bytes (table 1).
 pub const TRANSPARENT_BYTES: usize = 1532;
 
 pub const TRANSPORT_BYTES: usize = 1504;
@@ -37,10 +59,10 @@ const COVERED: usize = 18;
 pub fn has_parity(kind: u32) -> bool
     ensures { result ≡ has_parity kind }
 {
-    if kind == TRANSPORT_STREAM {
-        return true;
-    }
-    kind == IP_STREAM
+    matches!(
+        StreamType::from(kind),
+        StreamType::TransportStream | StreamType::IpStream
+    )
 }
 
 // The CRC that is due in a word: over the 46 header bits of types 2 and 3, and over 18 in any other.
@@ -57,11 +79,9 @@ pub fn crc(word: &[u8]) -> u8
 pub fn bytes(kind: u32) -> usize
     ensures { (result ≡ packet_bytes kind) × (result ≤ 1532) }
 {
-    if has_parity(kind) {
-        return TRANSPORT_BYTES;
+    match StreamType::from(kind) {
+        StreamType::Transparent => TRANSPARENT_BYTES,
+        StreamType::TransportStream | StreamType::IpStream => TRANSPORT_BYTES,
+        StreamType::Empty | StreamType::Other => 0,
     }
-    if kind == TRANSPARENT {
-        return TRANSPARENT_BYTES;
-    }
-    0
 }

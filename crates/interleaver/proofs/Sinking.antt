@@ -3,25 +3,26 @@
 use Prim.Native.Nat.{ℕ, zero, suc, ◌+◌, ◌*◌, ◌/◌, ◌%◌, ◌^◌, ◌≤◌, ◌<◌}
 use mathlib.Core.Path.{◌≡◌, refl, sym, ap, ap₂, ◌∙◌, subst}
 use mathlib.Core.Bool.{Bool, true, false}
-use mathlib.Core.Logic.{⊎_elim}
-use mathlib.Core.List.{List}
-use native.Mathlib.Nat.{zero-add, add-zero, add_assoc, mul-one, not-suc-le-zero}
-use native.Mathlib.Decide.{dec_lt}
+use mathlib.Core.Logic.{inl, inr, ⊎_elim}
+use mathlib.Core.List.{List, [], ◌∷◌}
+use native.Mathlib.Nat.{mul-le-mul_right, add_assoc, mul-one, not-suc-le-zero}
+use native.Mathlib.Decide.{dec_lt, ℕ_discrete}
 use native.Mathlib.Omega.{arith}
-use lib.Dec.{leb}
-use lib.ListN.{length, get_or, set, replicate, length-set, get_or-replicate}
-use borrow.Author.Tests.{le-leb, lt-leb}
+use lib.Dec.{leb, eqb}
+use lib.ListN.{length, get_or, set, replicate, length-replicate, get_or-replicate, get_or-eq_default}
+use borrow.Author.Tests.{le-leb, lt-leb, eqb-true, ne_eqb}
+use Rattle.ground.specs.Choice.{either}
 use Rattle.ground.proofs.Fill.{fill_more}
 use Rattle.bits.specs.Places.{number}
 use Rattle.bits.proofs.Places.{number_lt}
-use Rattle.wide.specs.Held.{place_of, Held, Put}
+use Rattle.wide.specs.Held.{place_of, Put}
 use Rattle.wide.specs.declared.Wide.{Wide}
 use Rattle.order.specs.Order.{parameter, entries5, entries9, entry, reversed, address, kept}
 use Rattle.order.specs.Once.{Block}
 use Rattle.order.specs.Rows.{row_address}
 use Rattle.pairs.specs.Pairs.{Paired}
 use Rattle.rows.specs.Spelt.{row_pair, rows_of}
-use Rattle.interleaver.specs.Inside.{half_of, Listed, Halves, short_at, row_value, row_width, read_bit, Behind, Sunk, Gathered}
+use Rattle.interleaver.specs.Inside.{is_block, half_of, row_bits, Listed, short_at, row_value, row_width, read_bit, Behind, Gathering, Gathered}
 use Rattle.order.proofs.Kept.{count, length_kept}
 use Rattle.rows.proofs.Columns.{pair_first, Both, row_of, rows_are}
 use Rattle.interleaver.proofs.Gathering.{sized, fellow_number, read_bit_lem, read_behind, rows_most, row_count, row_number}
@@ -44,44 +45,55 @@ short_short N j e =
     subst (λ (M : ℕ). leb 26 (j % 32) ≡ short_at M j) (sym e)
     (sym (leb_behind 736 26 (j % 32)) ∙ ap (λ (x : ℕ). leb 762 (736 + x % 32)) (sym (mul-one j)))
 
--- ---- the rows in two lists
+-- which block it is
+pub block_is : (N : ℕ) → is_block N ≡ true → Block N
+block_is N h =
+    elim (ℕ_discrete N 12282) [
+      | yes e ↦ inl e
+      | no d ↦ inr (eqb-true N 762 (subst (λ (t : Bool). either t (eqb N 762) ≡ true) (ne_eqb N 12282 d) h))
+    ]
+
+zeros_at : (n j : ℕ) → get_or {A = ℕ} (replicate n 0) j 0 ≡ 0
+zeros_at n j =
+    elim (dec_lt j n) [
+      | yes h ↦ get_or-replicate n j 0 0 h
+      | no h ↦ get_or-eq_default (replicate n 0) 0 {n = j} (omega (arith, length-replicate {A = ℕ} n 0))
+    ]
+
+-- ---- rows
 -- what is read of a row
-pub rows_both : (N : ℕ) (d : List ℕ) (j : ℕ) → Paired (2 ^ parameter N) d → j < 512 → Both (parameter N) d j (rows_of N d j)
-rows_both N d j p l = subst (Both (parameter N) d j) (sym (rows_are N d j l (parameter N) refl p.len)) (row_of (parameter N) (2 ^ parameter N) d j p)
+pub rows_both : (N : ℕ) (d : List ℕ) (j r : ℕ) → Paired (2 ^ parameter N) d → j < 512 → r ≡ rows_of N d j → Both (parameter N) d j r
+rows_both N d j r p l e = subst (Both (parameter N) d j) (sym (e ∙ rows_are N d j l (parameter N) refl p.len)) (row_of (parameter N) (2 ^ parameter N) d j p)
 
-listed_more : (N : ℕ) (d : List ℕ) (from : ℕ) (rows : List ℕ) (i v : ℕ) → Listed N d from rows i → i < length rows
-    → v ≡ number (λ t. row_pair (parameter N) d (from + i + 1) t % 64) 0 24 → Listed N d from (set rows i v) (i + 1)
-listed_more N d from rows i v l room e = record {
-  row = fill_more (λ k. number (λ t. row_pair (parameter N) d (from + k + 1) t % 64) 0 24) 0 rows i v room e l.row;
+pub listed_none : (N : ℕ) (d : List ℕ) (rows : List (List ℕ)) → Listed N d rows 0
+listed_none N d rows = record { row = λ i h. absurd (not-suc-le-zero h) }
+
+pub listed_more : (N : ℕ) (d : List ℕ) (rows : List (List ℕ)) (i a b : ℕ) → Listed N d rows i → i < length rows → a ≡ row_bits N d (i + 1) → b ≡ row_bits N d (half_of N + i + 1)
+    → Listed N d (set rows i (a ∷ b ∷ [])) (i + 1)
+listed_more N d rows i a b l room e f = record {
+  row = fill_more (λ k. row_bits N d (k + 1) ∷ row_bits N d (half_of N + k + 1) ∷ []) [] rows i (a ∷ b ∷ []) room (ap₂ (λ (x y : ℕ). x ∷ y ∷ []) e f) l.row;
 }
 
--- a listed row has 24 bits
-pub listed_lt : (N : ℕ) (d : List ℕ) → Paired (2 ^ parameter N) d → (from : ℕ) (rows : List ℕ) (m k : ℕ) → Listed N d from rows m → k < m → get_or rows k 0 < 16777216
-listed_lt N d p from rows m k l h =
-    subst (λ (x : ℕ). x < 16777216) (sym (l.row k h))
-    (number_lt (λ t. row_pair (parameter N) d (from + k + 1) t % 64) (pair_first (parameter N) (2 ^ parameter N) d p (from + k + 1)) 0 24)
+-- one of the two
+pub listed_at : (N : ℕ) (d : List ℕ) (rows : List (List ℕ)) (m i k : ℕ) → Listed N d rows m → i < m → k < 2 → get_or (get_or rows i []) k 0 ≡ row_bits N d (k * half_of N + i + 1)
+listed_at N d rows m i zero l h q = ap (λ (x : List ℕ). get_or x 0 0) (l.row i h) ∙ ap (row_bits N d) (omega arith)
+listed_at N d rows m i (suc zero) l h q = ap (λ (x : List ℕ). get_or x 1 0) (l.row i h) ∙ ap (row_bits N d) (omega arith)
+listed_at N d rows m i (suc (suc k)) l h q = absurd (omega arith)
 
-pub halves_none : (N : ℕ) (d first second : List ℕ) → length first ≡ 256 → length second ≡ 256 → Halves N d first second 0
-halves_none N d first second e f = record {
-  firsts = record { row = λ i h. absurd (not-suc-le-zero h) };
-  seconds = record { row = λ i h. absurd (not-suc-le-zero h) };
-  first_length = e;
-  second_length = f;
-}
+-- it is one of the rows
+pub row_in : (N : ℕ) → Block N → (k i : ℕ) → k < 2 → i < half_of N → k * half_of N + i < 2 ^ parameter N
+row_in N b k i q h =
+    let m : k * half_of N ≤ 1 * half_of N = mul-le-mul_right (half_of N) (omega arith) in
+    omega (arith, m, (sized N b).halves)
 
-pub halves_more : (N : ℕ) → Block N → (d first second : List ℕ) (i v : ℕ) → Paired (2 ^ parameter N) d → i < half_of N → Both (parameter N) d (i + 1) v → Halves N d first second i
-    → Halves N d (set first i (v % 4294967296)) (set second i (v / 4294967296)) (i + 1)
-halves_more N b d first second i v p l r h =
-    let s = sized N b in
-    record {
-      firsts = listed_more N d 0 first i (v % 4294967296) h.firsts (omega (arith, h.first_length, s.most))
-          (r.first ∙ ap (λ (j : ℕ). number (λ t. row_pair (parameter N) d (j + 1) t % 64) 0 24) (sym (zero-add i)));
-      seconds = listed_more N d (half_of N) second i (v / 4294967296) h.seconds (omega (arith, h.second_length, s.most))
-          (r.second ∙ fellow_number N (parameter N) (half_of N) s d p (i + 1)
-          ∙ ap (λ (j : ℕ). number (λ t. row_pair (parameter N) d j t % 64) 0 24) (sym (add_assoc (half_of N) i 1)));
-      first_length = length-set first i (v % 4294967296) ∙ h.first_length;
-      second_length = length-set second i (v / 4294967296) ∙ h.second_length;
-    }
+-- a row has 24 bits
+pub row_lt : (N : ℕ) (d : List ℕ) → Paired (2 ^ parameter N) d → (j v : ℕ) → v ≡ row_bits N d j → v < 16777216
+row_lt N d p j v e = subst (λ (x : ℕ). x < 16777216) (sym e) (number_lt (λ t. row_pair (parameter N) d j t % 64) (pair_first (parameter N) (2 ^ parameter N) d p j) 0 24)
+
+-- a row's second bits are those of the row that is read with it
+pub row_with : (N : ℕ) → Block N → (d : List ℕ) (i v : ℕ) → Paired (2 ^ parameter N) d → v ≡ number (λ t. row_pair (parameter N) d (i + 1) t / 64) 0 24 → v ≡ row_bits N d (half_of N + i + 1)
+row_with N b d i v p e =
+    e ∙ fellow_number N (parameter N) (half_of N) (sized N b) d p (i + 1) ∙ ap (row_bits N d) (sym (add_assoc (half_of N) i 1))
 
 -- ---- rows that go into the sink
 width_least : (t : Bool) → 23 ≤ row_width t
@@ -97,45 +109,38 @@ module _ (N : ℕ) (b : Block N) where
   row_room s i h l =
       omega (arith, h.at, length_kept (address (parameter N)) N (32 * i), row_count N b i l, rows_most N b (i + 1) (omega arith), width_least (short_at N (i + 1)), block_most)
 
-  pub sunk_none : (from : ℕ) (rows out : List ℕ) (s : Wide) → Behind N s from → Sunk N from rows out s out s 0
-  sunk_none from rows out s h = record {
-    place = subst (Behind N s) (sym (add-zero from)) h;
-    len = refl;
-    behind = λ j k. refl;
-    keeps = λ d p l k. k;
-  }
+  module _ (d : List ℕ) (p : Paired (2 ^ parameter N) d) where
+    pub gathering_none : Gathering N d (replicate 1536 0) (record { acc = 0; used = 0; at = 0 }) 0
+    unfolding number kept
+    gathering_none = record {
+      place = record { room = omega arith; words = refl; at = refl };
+      len = length-replicate {A = ℕ} 1536 0;
+      behind = λ j h. zeros_at 1536 j;
+      held = record { bytes = λ k h. absurd (not-suc-le-zero h); part = refl };
+    }
 
-  pub sunk_more : (from : ℕ) (rows out : List ℕ) (s : Wide) (out' : List ℕ) (t : Wide) (i : ℕ) (out'' : List ℕ) (t' : Wide)
-      → from ≤ half_of N → i < half_of N → Sunk N from rows out s out' t i
-      → Put (row_value (short_at N (from + i + 1)) (get_or rows i 0)) (row_width (short_at N (from + i + 1))) out' t out'' t' → Sunk N from rows out s out'' t' (i + 1)
-  sunk_more from rows out s out' t i out'' t' lf li h put =
-      let S = sized N b in
-      let lj : from + i < 2 ^ parameter N = omega (arith, S.halves) in
-      let at : place_of t ≡ count (address (parameter N)) N (32 * (from + i)) = h.place.at ∙ length_kept (address (parameter N)) N (32 * (from + i)) in
-      record {
-        place = record {
-          room = put.room;
-          words = put.step ∙ h.place.words;
-          at = put.moved ∙ ap (λ (x : ℕ). x + row_width (short_at N (from + i + 1))) at ∙ sym (row_count N b (from + i) lj)
-              ∙ sym (length_kept (address (parameter N)) N (32 * (from + i + 1))) ∙ ap (λ (x : ℕ). length (kept (address (parameter N)) N (32 * x))) (add_assoc from i 1);
-        };
-        len = put.len ∙ h.len;
-        behind = λ j k. put.behind j (omega arith) ∙ h.behind j (omega (arith, put.moved));
-        keeps = λ d p l k.
-            put.keeps (read_bit N d) (read_bit_lem N (2 ^ parameter N) d p) (h.keeps d p (record { row = λ m q. l.row m (omega arith) }) k)
-            (row_number N b d p (from + i) (get_or rows i 0) lj (l.row i (omega arith)) ∙ ap (λ (x : ℕ). number (read_bit N d) x (row_width (short_at N (from + i + 1)))) (sym at));
-      }
+    -- a row more
+    pub gathering_more : (out : List ℕ) (s : Wide) (i v : ℕ) (out' : List ℕ) (s' : Wide) → Gathering N d out s i → i < 2 ^ parameter N → v ≡ row_bits N d (i + 1)
+        → Put (row_value (short_at N (i + 1)) v) (row_width (short_at N (i + 1))) out s out' s' → Gathering N d out' s' (i + 1)
+    gathering_more out s i v out' s' h l e put =
+        let at : place_of s ≡ count (address (parameter N)) N (32 * i) = h.place.at ∙ length_kept (address (parameter N)) N (32 * i) in
+        record {
+          place = record {
+            room = put.room;
+            words = put.step ∙ h.place.words;
+            at = put.moved ∙ ap (λ (x : ℕ). x + row_width (short_at N (i + 1))) at ∙ sym (row_count N b i l) ∙ sym (length_kept (address (parameter N)) N (32 * (i + 1)));
+          };
+          len = put.len ∙ h.len;
+          behind = λ j k. put.behind j (omega arith) ∙ h.behind j (omega (arith, put.moved));
+          held = put.keeps (read_bit N d) (read_bit_lem N (2 ^ parameter N) d p) h.held
+              (row_number N b d p i v l e ∙ ap (λ (x : ℕ). number (read_bit N d) x (row_width (short_at N (i + 1)))) (sym at));
+        }
 
   -- zeros behind the block
   number_behind : (d : List ℕ) (k n : ℕ) → N ≤ k → number (read_bit N d) k n ≡ 0
   unfolding number
   number_behind d k zero h = refl
   number_behind d k (suc n) h = ap₂ (λ (x y : ℕ). x * 2 + y) (number_behind d k n h) (read_behind N d (k + n) (omega arith))
-
-  -- the sink at its start
-  pub start : Behind N (record { acc = 0; used = 0; at = 0 }) 0
-  unfolding kept
-  start = record { room = omega arith; words = refl; at = refl }
 
   -- behind all rows the sink stands behind the block
   pub place_whole : (r : Wide) → Behind N r (half_of N + half_of N) → place_of r ≡ N
@@ -145,23 +150,16 @@ module _ (N : ℕ) (b : Block N) where
       h.at ∙ length_kept (address (parameter N)) N (32 * (half_of N + half_of N)) ∙ ap (count (address (parameter N)) N) all ∙ S.full
 
   -- all rows and the zeros that push them out
-  pub gathered : (d first second : List ℕ) (out₁ : List ℕ) (r₁ : Wide) (out₂ : List ℕ) (r₂ : Wide) (out₃ : List ℕ) (r₃ : Wide) → Paired (2 ^ parameter N) d
-      → Listed N d 0 first (half_of N) → Listed N d (half_of N) second (half_of N)
-      → Sunk N 0 first (replicate 1536 0) (record { acc = 0; used = 0; at = 0 }) out₁ r₁ (half_of N) → Sunk N (half_of N) second out₁ r₁ out₂ r₂ (half_of N)
-      → Put 0 6 out₂ r₂ out₃ r₃ → Gathered N d out₃
-  unfolding number
-  gathered d first second out₁ r₁ out₂ r₂ out₃ r₃ p l₁ l₂ s₁ s₂ put =
-      let S = sized N b in
-      let start : Held (read_bit N d) (replicate 1536 0) (record { acc = 0; used = 0; at = 0 }) = record { bytes = λ k h. absurd (not-suc-le-zero h); part = refl } in
-      let at : place_of r₂ ≡ N = place_whole r₂ s₂.place in
-      let early : place_of r₁ ≤ N = omega (arith, s₁.place.at, length_kept (address (parameter N)) N (32 * (0 + half_of N)), rows_most N b (0 + half_of N) (omega (arith, S.halves))) in
-      let held = put.keeps (read_bit N d) (read_bit_lem N (2 ^ parameter N) d p) (s₂.keeps d p l₂ (s₁.keeps d p l₁ start)) (sym (number_behind d (place_of r₂) 6 (omega arith))) in
+  pub gathered : (d out : List ℕ) (s : Wide) (out' : List ℕ) (s' : Wide) → Paired (2 ^ parameter N) d → Gathering N d out s (half_of N + half_of N) → Put 0 6 out s out' s' → Gathered N d out'
+  gathered d out s out' s' p h put =
+      let at : place_of s ≡ N = place_whole s h.place in
+      let held = put.keeps (read_bit N d) (read_bit_lem N (2 ^ parameter N) d p) h.held (sym (number_behind d (place_of s) 6 (omega arith))) in
       record {
-        len = put.len ∙ s₂.len ∙ s₁.len;
-        bytes = λ k h. elim (dec_lt k r₃.at) [
-          | yes l ↦ held.bytes k l
-          | no l ↦ (
-              let far : N ≤ 8 * k = ⊎_elim (λ e. omega (arith, put.moved, put.room, put.step, s₂.place.words)) (λ e. omega (arith, put.moved, put.room, put.step, s₂.place.words)) b in
-              put.behind k (omega arith) ∙ s₂.behind k (omega arith) ∙ s₁.behind k (omega arith) ∙ get_or-replicate 1536 k 0 0 h ∙ sym (number_behind d (8 * k) 8 far))
+        len = put.len ∙ h.len;
+        bytes = λ k l. elim (dec_lt k s'.at) [
+          | yes q ↦ held.bytes k q
+          | no q ↦ (
+              let far : N ≤ 8 * k = ⊎_elim (λ e. omega (arith, put.moved, put.room, put.step, h.place.words)) (λ e. omega (arith, put.moved, put.room, put.step, h.place.words)) b in
+              put.behind k (omega arith) ∙ h.behind k (omega arith) ∙ sym (number_behind d (8 * k) 8 far))
         ];
       }

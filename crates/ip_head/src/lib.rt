@@ -20,13 +20,11 @@ pub fn fits(at: usize) -> bool
 pub fn error_bit(error: u8) -> usize
     ensures { (result ≡ choose (eqb error 0) 0 1) × (result < 2) }
 {
-    if error == 0 {
-        return 0;
-    }
-    1
+    usize::from(error != 0)
 }
 
 // What the header of a packet says, two bytes (table 6): IP_Packet_Type, IP_Packet_Error and IP_Packet_Length. RFU is not looked at.
+// The first two stay numbers: types 0 and 3, which no packet has, can stand there too, and what is handed out has both as bytes.
 #[derive(Clone, Copy)]
 pub struct Head {
     pub kind: u8,
@@ -50,21 +48,12 @@ pub fn head_of(a: u8, b: u8) -> Head
 pub fn is_padding(a: u8, b: u8) -> bool
     ensures { result ≡ stuffing a b }
 {
-    if a != 255 {
-        return false;
-    }
-    b == 255
+    a == 255 && b == 255
 }
 
 // No header of a packet: type 0 or 3, or length 0.
 pub fn unfit(h: Head) -> bool
     ensures { result ≡ either (eqb h.kind 0) (either (eqb h.kind 3) (eqb h.length 0)) }
 {
-    if h.kind == 0 {
-        return true;
-    }
-    if h.kind == 3 {
-        return true;
-    }
-    h.length == 0
+    h.kind == 0 || h.kind == 3 || h.length == 0
 }

@@ -6,6 +6,7 @@ use borrow.Fn.World.{ArgsD, ResD}
 use borrow.Fn.Kinds.{ended_of}
 use denote.Triple.Clauses.{AtExit}
 use Rattle.ground.proofs.Outcome.{same}
+use Rattle.ground.proofs.Refusals.{status_same}
 use Rattle.ip_look.specs.contracts.refusal as refusal
 use Rattle.ip_look.proofs.refusal.Kinds as refusal_kinds
 use Rattle.ip_look.proofs.refusal.Reads as refusal_reads
@@ -13,4 +14,4 @@ use Rattle.ip_look.proofs.refusal.Reads as refusal_reads
 module _ (κs : Lfts 2) (a : ArgsD refusal.signature κs) where
   pub refusal_agrees : (r r' : ResD refusal.signature κs) (s s' : AtExit (ended_of 2 refusal_kinds.ps refusal_kinds.r) κs) →
       refusal_reads.Post κs a r s → refusal_reads.Post κs a r' s' → r ≡ r'
-  refusal_agrees r r' s s' p q = same p q
+  refusal_agrees r r' s s' p q = status_same r r' (same p q)

@@ -1,33 +1,20 @@
 -- Laws of the reader's refusals: the facts that lead to each number, and what a number says.
 -- Assumes nothing.
-use Prim.Native.Nat.{ℕ, ◌≤◌, ◌<◌}
-use mathlib.Core.Bool.{Bool, true, false, not}
-use mathlib.Core.Path.{◌≡◌, refl, sym, ap, ap₂, ◌∙◌}
+use Prim.Native.Nat.{ℕ, ◌≤◌}
+use mathlib.Core.Bool.{Bool, false, not}
+use mathlib.Core.Path.{◌≡◌, sym, ap, ap₂, ◌∙◌}
 use mathlib.Core.List.{List, [], ◌∷◌, ◌++◌}
-use native.Mathlib.Omega.{arith}
-use borrow.Author.Tests.{eq-eqb, ne_eqb, lt-ltb, le-ltb, ltb-false}
+use borrow.Author.Tests.{eq-eqb, le-ltb, ltb-false}
 use lib.Dec.{eqb, ltb}
 use lib.ListN.{length}
 use Rattle.ground.specs.Choice.{choose, both, Fault, refuse, first_of}
-use Rattle.ground.proofs.Choice.{no_difference, AllClear, first_clear, first_found, all_clear, clear_all}
+use Rattle.ground.proofs.Choice.{no_difference, first_clear, all_clear, clear_all}
+use Rattle.ground.proofs.Faults.{first_after, first_before}
 use Rattle.infoword.specs.Suffix.{kind_of}
 use Rattle.fields.specs.Report.{read_faults, read_refusal}
 use Rattle.fields.proofs.Faults.{Readable, read_0, readable}
 use Rattle.ip_look.specs.Looking.{got_of, ip_faults}
 use Rattle.ip_look.specs.Steps.{packets_refusal}
-
--- faults that are looked for one list after the other
-pub first_behind : (l m : List Fault) → AllClear l → first_of (l ++ m) ≡ first_of m
-first_behind [] m c = refl
-first_behind (f ∷ l) m c = first_clear f (l ++ m) c.0 ∙ first_behind l m c.1
-
-pub first_before : (l m : List Fault) (n : ℕ) → n ≡ first_of l → 0 < n → n ≡ first_of (l ++ m)
-first_before [] m n e h = absurd (omega arith)
-first_before (f ∷ l) m n e h = go f.found e (λ k. first_before l m n k h)
-  where
-    go : (b : Bool) → n ≡ choose b f.number (first_of l) → (n ≡ first_of l → n ≡ first_of (l ++ m)) → n ≡ choose b f.number (first_of (l ++ m))
-    go true k ih = k
-    go false k ih = ih k
 
 same : (x y : ℕ) → x ≡ y → not (eqb x y) ≡ false
 same x y e = ap not (eq-eqb x y e)
@@ -53,36 +40,27 @@ module _ (w m : List ℕ) (room header : ℕ) where
   abbrev behind_1 : List Fault
   behind_1 = refuse 1 (ltb room 6604) ∷ behind_2
 
-  pub held_wrong : (length m ≡ 4104 → ⊥) → 1 ≡ first_of faults
-  held_wrong h = sym (first_found (refuse 1 (not (eqb (length m) 4104))) behind_1 (ap not (ne_eqb (length m) 4104 h)))
-
   module _ (len : length m ≡ 4104) where
     past_1 : first_of faults ≡ first_of behind_1
     past_1 = first_clear (refuse 1 (not (eqb (length m) 4104))) behind_1 (same (length m) 4104 len)
 
-    pub room_wrong : room < 6604 → 1 ≡ first_of faults
-    room_wrong h = sym (past_1 ∙ first_found (refuse 1 (ltb room 6604)) behind_2 (lt-ltb room 6604 h))
-
     module _ (enough : 6604 ≤ room) where
       past_2 : first_of faults ≡ first_of behind_2
       past_2 = past_1 ∙ first_clear (refuse 1 (ltb room 6604)) behind_2 (le-ltb room 6604 enough)
-
-      pub header_wrong : (header ≡ 16 → ⊥) → 1 ≡ first_of faults
-      header_wrong h = sym (past_2 ∙ first_found (refuse 1 (not (eqb header 16))) (read_faults w ++ last) (ap not (ne_eqb header 16 h)))
 
       module _ (sixteen : header ≡ 16) where
         past_3 : first_of faults ≡ first_of (read_faults w ++ last)
         past_3 = past_2 ∙ first_clear (refuse 1 (not (eqb header 16))) (read_faults w ++ last) (same header 16 sixteen)
 
         -- the word's own refusal
-        pub word_wrong : (n : ℕ) → n ≡ read_refusal w → 0 < n → n ≡ first_of faults
+        pub word_wrong : (n : ℕ) → n ≡ read_refusal w → (n ≡ 0 → ⊥) → n ≡ first_of faults
         unfolding read_refusal
-        word_wrong n e h = first_before (read_faults w) last n e h ∙ sym past_3
+        word_wrong n e h = e ∙ sym (past_3 ∙ first_before (read_faults w) last (λ z. h (e ∙ z)))
 
         module _ (ok : 0 ≡ read_refusal w) where
           past_4 : first_of faults ≡ first_of last
           unfolding read_refusal
-          past_4 = past_3 ∙ first_behind (read_faults w) last (all_clear (read_faults w) tt (sym ok))
+          past_4 = past_3 ∙ first_after (read_faults w) last tt (sym ok)
 
           -- its packets' refusal: both lengths are right here
           pub packets_wrong : (n : ℕ) → n ≡ packets_refusal w m → n ≡ first_of faults

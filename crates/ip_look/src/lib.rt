@@ -5,12 +5,14 @@ mod looking;
 
 ghost use Rattle.std.specs.Prelude.{◌≡◌, eqb, length};
 ghost use Rattle.ground.specs.Choice.{both, first_of};
+ghost use Rattle.ground.specs.Refusals.{status};
 ghost use Rattle.ip_look.specs.Looking.{got_of, ip_faults};
 ghost use Rattle.ip_look.specs.Steps.{packets_refusal};
 
 use fields::FIRST_HEADER_ADDRESS;
-use ground::{LENGTH_WRONG, PACKETS_WRONG, PAYLOAD_WORD};
-use infoword::{IP_STREAM, STREAM_TYPE};
+use ground::PAYLOAD_WORD;
+use ground::refusal::Refusal;
+use infoword::{STREAM_TYPE, StreamType};
 use ip_open::ROOM;
 
 // The payload of a word of type 3, in bytes (table 5).
@@ -30,45 +32,35 @@ fn refused(word: &[u8], memory: &[u8]) -> bool
     if word.len() != PAYLOAD_WORD {
         return false;
     }
-    if memory.len() != ROOM {
+    let Some(memory) = memory.as_array::<ROOM>() else {
         return false;
-    }
+    };
     let address = bits::field(word, FIRST_HEADER_ADDRESS, 12) as usize;
     looking::payload_refused(&word[..PAYLOAD], memory, address)
 }
 
 // The refusal of the packets in a word, 19: words of type 0, 1 and 2 have none.
-fn packets_refusal(word: &[u8], memory: &[u8]) -> u8
-    ensures { result ≡ packets_refusal word.now memory.now }
+fn packets_refusal(word: &[u8], memory: &[u8]) -> Result<(), Refusal>
+    ensures { status result ≡ packets_refusal word.now memory.now }
 {
-    if bits::field(word, STREAM_TYPE, 3) != IP_STREAM {
-        return 0;
-    }
     // a fault may stand behind packets that would already be handed out, so all of the payload is looked at before
-    if refused(word, memory) {
-        return PACKETS_WRONG;
+    let stream_type = StreamType::from(bits::field(word, STREAM_TYPE, 3));
+    if stream_type == StreamType::IpStream && refused(word, memory) {
+        return Err(Refusal::PacketsWrong);
     }
-    0
+    Ok(())
 }
 
-// The refusal of a read, by the word, the memory of the open packet and the lengths of packets and header; 0 where there is none.
-pub fn refusal(word: &[u8], memory: &[u8], room: usize, header: usize) -> u8
-    ensures { result ≡ first_of (ip_faults word.now memory.now room header) }
+// The refusal of a read, by the word, the memory of the open packet and the lengths of packets and header.
+pub fn refusal(word: &[u8], memory: &[u8], room: usize, header: usize) -> Result<(), Refusal>
+    ensures { status result ≡ first_of (ip_faults word.now memory.now room header) }
 {
-    if memory.len() != ROOM {
-        return LENGTH_WRONG;
-    }
-    if room < PACKETS {
-        return LENGTH_WRONG;
-    }
-    if header != HEADER {
-        return LENGTH_WRONG;
+    if memory.len() != ROOM || room < PACKETS || header != HEADER {
+        return Err(Refusal::LengthWrong);
     }
     // both are looked for before either answers: the word's own comes first
     let own = fields::refusal(word);
     let carried = packets_refusal(word, memory);
-    if 0 < own {
-        return own;
-    }
+    own?;
     carried
 }

@@ -1,72 +1,64 @@
 // The first pass over a payload, which writes nothing: whether it is refused, with 19.
-ghost use Rattle.std.specs.Prelude.{◌≡◌, length, drop};
+ghost use Rattle.std.specs.Prelude.{◌≡◌, drop};
 ghost use Rattle.ip.specs.Write.{announced};
-ghost use Rattle.ip.specs.Read.{stray, reading};
+ghost use Rattle.ip.specs.Read.{stray, walk, reading};
 ghost use Rattle.ip.specs.Memory.{open_in};
-ghost use Rattle.ip_look.specs.Steps.{walk_from};
 
 use ip_head::{LAST_HEADER, head_of, is_padding, unfit};
-use ip_open::open_in;
+use ip_open::{ROOM, open_in};
 
-// Whether some byte from a place on is not FF.
-fn stray_from(payload: &[u8], from: usize) -> bool
-    ensures { result ≡ stray (drop from payload.now) }
+// First_Header_Address where no header begins in the word (table 5).
+const NO_HEADER: usize = 0xFFF;
+
+// What stands from a place on: nothing, where that is past the end.
+fn from(bytes: &[u8], at: usize) -> &[u8]
+    ensures { result.now ≡ drop at bytes.now }
 {
-    let mut i = from;
-    while i < payload.len() {
-        if payload[i] != 255 {
-            return true;
-        }
-        i += 1;
-    }
-    false
+    bytes.get(at..).unwrap_or(&[])
 }
 
-// Whether the packets are refused whose first header stands at a place.
-fn heads_refused(payload: &[u8], from: usize) -> bool
-    requires { length payload.now ≡ 1504 }
-    ensures { result ≡ (walk_from from payload.now).refused }
+// Whether some byte is not FF.
+fn has_stray(bytes: &[u8]) -> bool
+    ensures { result ≡ stray bytes.now }
 {
-    let mut at = from;
-    while at <= LAST_HEADER {
-        let a = payload[at];
-        let b = payload[at + 1];
-        if is_padding(a, b) {
-            return stray_from(payload, at + 2);
+    bytes.iter().any(|b| *b != 255)
+}
+
+// Whether the packets are refused whose first header stands in front.
+fn heads_refused(bytes: &[u8]) -> bool
+    ensures { result ≡ (walk 0 bytes.now).refused }
+{
+    let mut left = bytes;
+    while let [a, b, behind @ ..] = left {
+        if is_padding(*a, *b) {
+            return has_stray(behind);
         }
-        let h = head_of(a, b);
+        let h = head_of(*a, *b);
         if unfit(h) {
             return true;
         }
         // a packet that runs on takes the rest
-        at += 2 + h.length;
+        left = from(behind, h.length);
     }
-    // no header fits into byte 1,503
-    stray_from(payload, at)
+    // no header fits into a last byte
+    has_stray(left)
 }
 
-// First_Header_Address where so many bytes of an open packet come first: FFF where no header fits behind them.
+// First_Header_Address where so many bytes of an open packet come first: FFF where no header fits behind them. The writer has its own in
+// ip_queue, and neither crate stands on the other.
 fn address_after(rest: usize) -> usize
     ensures { result ≡ announced rest }
 {
-    if rest <= LAST_HEADER {
-        return rest;
-    }
-    4095
+    if rest <= LAST_HEADER { rest } else { NO_HEADER }
 }
 
 // Whether a payload is refused.
-pub fn payload_refused(payload: &[u8], memory: &[u8], address: usize) -> bool
-    requires { (length payload.now ≡ 1504) × (length memory.now ≡ 4104) }
+pub fn payload_refused(payload: &[u8], memory: &[u8; ROOM], address: usize) -> bool
     ensures { result ≡ (reading (open_in memory.now) address payload.now).refused }
 {
-    let o = open_in(memory);
-    if !o.begun {
-        return heads_refused(payload, address);
-    }
+    let Some(o) = open_in(memory) else {
+        return heads_refused(from(payload, address));
+    };
     let rest = o.length - o.sofar;
-    if address != address_after(rest) {
-        return true;
-    }
-    heads_refused(payload, rest)
+    address != address_after(rest) || heads_refused(from(payload, rest))
 }

@@ -5,7 +5,8 @@ use contract.Lifetimes.{Lfts}
 use borrow.Fn.World.{ArgsD, ResD}
 use borrow.Fn.Kinds.{ended_of}
 use denote.Triple.Clauses.{AtExit}
-use Rattle.ground.proofs.Outcome.{same, agree}
+use Rattle.ground.proofs.Outcome.{same}
+use Rattle.ground.proofs.Refusals.{agree_status}
 use Rattle.ip_open.specs.contracts.open_in as open_in
 use Rattle.ip_open.proofs.open_in.Kinds as open_in_kinds
 use Rattle.ip_open.proofs.open_in.Reads as open_in_reads
@@ -21,4 +22,4 @@ module _ (κs : Lfts 1) (a : ArgsD open_in.signature κs) where
 module _ (κs : Lfts 1) (a : ArgsD lost.signature κs) where
   pub lost_agrees : (r r' : ResD lost.signature κs) (s s' : AtExit (ended_of 1 lost_kinds.ps lost_kinds.r) κs) →
       lost_reads.Post κs a r s → lost_reads.Post κs a r' s' → (r ≡ r') × (s.0.now ≡ s'.0.now)
-  lost_agrees r r' s s' p q = agree p q
+  lost_agrees r r' s s' p q = agree_status p q

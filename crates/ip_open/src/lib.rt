@@ -4,18 +4,19 @@
 ghost use Rattle.std.specs.Prelude.{◌≡◌, not, eqb, ltb};
 ghost use Rattle.ground.specs.Outcome.{Is};
 ghost use Rattle.ground.specs.Choice.{both};
+ghost use Rattle.ground.specs.Refusals.{status};
 ghost use Rattle.ip.specs.Memory.{unfit};
-ghost use Rattle.ip_open.specs.Opening.{opened_in, dropping};
+ghost use Rattle.ip_open.specs.Opening.{opened_in, where_begun, dropping};
 
-use ground::LENGTH_WRONG;
+use ground::refusal::Refusal;
 
 // The bytes of that memory.
 pub const ROOM: usize = 4104;
 
-// An open packet without its bytes; where none is open the numbers mean nothing.
+// An open packet without its bytes. That its length is at most 4,095 is no ghost field: the numbers could not stand in one before they are
+// tested, and open_in would have to promise of a record beside this one.
 #[derive(Clone, Copy)]
 pub struct Opened {
-    pub begun: bool,
     pub kind: u8,
     pub error: u8,
     pub length: usize,
@@ -24,61 +25,41 @@ pub struct Opened {
 
 // Whether the numbers in front of the bytes are those of an open packet: 1, type 1 or 2, error 0 or 1, 0, length 1 to 4,095, and fewer
 // bytes so far than that.
-fn is_open(mark: u8, kind: u8, error: u8, spare: u8, size: usize, sofar: usize) -> bool
-    ensures { result ≡ both (eqb mark 1) (both (not (unfit kind size)) (both (ltb error 2) (both (eqb spare 0) (ltb sofar size)))) }
+fn is_open(mark: u8, spare: u8, o: Opened) -> bool
+    ensures { result ≡ both (eqb mark 1) (both (not (unfit o.kind o.length)) (both (ltb o.error 2) (both (eqb spare 0) (ltb o.sofar o.length)))) }
 {
-    if mark != 1 {
-        return false;
-    }
-    if kind == 0 {
-        return false;
-    }
-    if 2 < kind {
-        return false;
-    }
-    if size == 0 {
-        return false;
-    }
-    if 4095 < size {
-        return false;
-    }
-    if 1 < error {
-        return false;
-    }
-    if spare != 0 {
-        return false;
-    }
-    sofar < size
+    mark == 1
+        && (1..=2).contains(&o.kind)
+        && (1..=4095).contains(&o.length)
+        && o.error < 2
+        && spare == 0
+        && o.sofar < o.length
 }
 
 // The open packet that lent memory means: 1, type, error, 0, length (two bytes), how many bytes are there so far (two), and those bytes. Past
 // the end of the memory zeros are read.
-pub fn open_in(memory: &[u8]) -> Opened
-    ensures { result ≡ opened_in memory.now }
+pub fn open_in(memory: &[u8]) -> Option<Opened>
+    ensures { result ≡ where_begun (opened_in memory.now) }
 {
     let mark = bits::byte(memory, 0);
-    let kind = bits::byte(memory, 1);
-    let error = bits::byte(memory, 2);
     let spare = bits::byte(memory, 3);
-    let length = byte_runs::two(bits::byte(memory, 4), bits::byte(memory, 5));
-    let sofar = byte_runs::two(bits::byte(memory, 6), bits::byte(memory, 7));
-    Opened {
-        begun: is_open(mark, kind, error, spare, length, sofar),
-        kind,
-        error,
-        length,
-        sofar,
-    }
+    let opened = Opened {
+        kind: bits::byte(memory, 1),
+        error: bits::byte(memory, 2),
+        length: byte_runs::two(bits::byte(memory, 4), bits::byte(memory, 5)),
+        sofar: byte_runs::two(bits::byte(memory, 6), bits::byte(memory, 7)),
+    };
+    is_open(mark, spare, opened).then_some(opened)
 }
 
 // A word was lost: what was open is dropped, so that nothing is handed out that was not a whole packet. The 4,104 bytes of the open
-// packet become zeros and 0 is returned; any other length is refused and touches nothing.
-pub fn lost(memory: &mut [u8]) -> u8
-    ensures { Is (dropping memory.old) result memory.new }
+// packet become zeros; any other length is refused and touches nothing.
+pub fn lost(memory: &mut [u8]) -> Result<(), Refusal>
+    ensures { Is (dropping memory.old) (status result) memory.new }
 {
     if memory.len() != ROOM {
-        return LENGTH_WRONG;
+        return Err(Refusal::LengthWrong);
     }
-    byte_runs::fill(memory, 0, 0);
-    0
+    memory.fill(0);
+    Ok(())
 }

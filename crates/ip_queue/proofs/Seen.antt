@@ -8,11 +8,16 @@ use native.Mathlib.Decide.{dec_le, dec_lt}
 use native.Mathlib.Omega.{arith}
 use lib.Dec.{eqb}
 use borrow.Author.Tests.{eq-eqb, ne_eqb, le-leb, lt-leb}
+use Rattle.std.specs.Prelude.{Result, Ok, Err}
+use Rattle.ground.specs.declared.refusal.Refusal.{Refusal}
+use Rattle.ground.specs.declared.refusal.Refusal.TheVariants.{LengthWrong}
 use Rattle.ground.specs.Choice.{choose, Fault, first_of}
+use Rattle.ground.specs.Refusals.{number}
 use Rattle.ground.proofs.Choice.{choose_true, choose_false, first_at, clear_all}
+use Rattle.ground.proofs.Refusals.{number_not_0, number_same}
 use Rattle.ip.specs.Write.{to_come, announced, address}
 use Rattle.ip.specs.Memory.{Queue, queue_in}
-use Rattle.ip_queue.specs.Looking.{misplaced, Ready, front_faults, front_of}
+use Rattle.ip_queue.specs.Looking.{misplaced, Ready, Front, told, front_faults, front_of}
 
 -- whatever is still to come, its address has twelve bits
 announced_small : (r : ℕ) → announced r < 4096
@@ -40,19 +45,19 @@ module _ (sent : ℕ) (q : List ℕ) where
   at = address sent c.packets
 
   -- where something is wrong, there is no address
-  refused : (n : ℕ) → first_of faults ≡ n → 0 < n → record { refusal = n; address = 0 } ≡ front_of sent q
+  refused : (e : Refusal) → first_of faults ≡ number e → told (Err e) ≡ front_of sent q
   unfolding front_of
-  refused n e h =
-      let a : choose (eqb (first_of faults) 0) at 0 ≡ 0 = choose_false at 0 (ne_eqb (first_of faults) 0 (λ z. omega (arith, h, e, z))) in
-      cc (e, a)
+  refused e h =
+      let a : choose (eqb (first_of faults) 0) at 0 ≡ 0 = choose_false at 0 (ne_eqb (first_of faults) 0 (λ z. number_not_0 e (sym h ∙ z))) in
+      cc (h, a)
 
-  pub queue_wrong : (n : ℕ) → n ≡ c.number → 0 < n → record { refusal = n; address = 0 } ≡ front_of sent q
-  queue_wrong n e h = refused n (first_at 0 faults tt (ap not (ne_eqb c.number 0 (λ z. omega (arith, h, e, z)))) ∙ sym e) h
+  pub queue_wrong : (e : Refusal) → number e ≡ c.number → told (Err e) ≡ front_of sent q
+  queue_wrong e h = refused e (first_at 0 faults tt (ap not (ne_eqb c.number 0 (λ z. number_not_0 e (h ∙ z)))) ∙ sym h)
 
-  pub sent_wrong : c.number ≡ 0 → misplaced sent c.packets ≡ true → record { refusal = 1; address = 0 } ≡ front_of sent q
-  sent_wrong whole e = refused 1 (first_at 1 faults (ap not (eq-eqb c.number 0 whole), tt) e) (omega arith)
+  pub sent_wrong : c.number ≡ 0 → misplaced sent c.packets ≡ true → told (Err LengthWrong) ≡ front_of sent q
+  sent_wrong whole h = refused LengthWrong (first_at 1 faults (ap not (eq-eqb c.number 0 whole), tt) h)
 
-  pub none_wrong : Ready q sent → (a : ℕ) → a ≡ at → record { refusal = 0; address = a } ≡ front_of sent q
+  pub none_wrong : Ready q sent → (a : ℕ) → a ≡ at → told (Ok a) ≡ front_of sent q
   unfolding front_of
   none_wrong ready a e =
       let z : first_of faults ≡ 0 = clear_all faults (ap not (eq-eqb c.number 0 ready.0), (ready.1, tt)) in
@@ -78,3 +83,10 @@ module _ (sent : ℕ) (q : List ℕ) where
         | yes h ↦ omega (arith, choose_false at 0 (ne_eqb (first_of faults) 0 (λ z. omega (arith, h, z))))
         | no h ↦ omega (arith, choose_true at 0 (eq-eqb (first_of faults) 0 (omega arith)), announced_small (to_come sent c.packets))
       ]
+
+-- two answers that tell the same are one
+pub told_same : (r s : Result ℕ Refusal) → told r ≡ told s → r ≡ s
+told_same (Ok a) (Ok b) h = ap (λ (f : Front). Ok f.address) h
+told_same (Ok a) (Err e) h = absurd (number_not_0 e (sym (ap (λ (f : Front). f.refusal) h)))
+told_same (Err e) (Ok b) h = absurd (number_not_0 e (ap (λ (f : Front). f.refusal) h))
+told_same (Err e) (Err f) h = ap (λ (x : Refusal). Err x) (number_same (ap (λ (f : Front). f.refusal) h))

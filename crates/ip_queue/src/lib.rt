@@ -3,12 +3,13 @@
 #![tactic(auto)]
 
 ghost use Rattle.std.specs.Prelude.{◌≡◌, ◌+◌, ◌<◌, ◌≤◌, length};
+ghost use Rattle.ground.specs.Refusals.{status};
 ghost use Rattle.ip.specs.Memory.{unfit, queue_in};
 ghost use Rattle.ip.specs.Write.{to_come, address};
 ghost use Rattle.ip_queue.specs.Places.{length_at};
-ghost use Rattle.ip_queue.specs.Looking.{misplaced, Ready, front_of};
+ghost use Rattle.ip_queue.specs.Looking.{misplaced, Ready, told, front_of};
 
-use ground::{LENGTH_WRONG, PACKETS_WRONG};
+use ground::refusal::Refusal;
 
 // The four bytes before a packet's data.
 pub const HEAD: usize = 4;
@@ -18,57 +19,41 @@ const NO_HEADER: u32 = 0xFFF;
 
 const LAST_HEADER: u32 = 1502;
 
-// What a word needs to know of the queue that it is to be filled from: why it is refused, and if it is not, First_Header_Address.
-#[derive(Clone, Copy)]
-pub struct Front {
-    pub refusal: u8,
-    pub address: u32,
-}
-
-// The length of the packet at a place.
-fn length_at(queue: &[u8], at: usize) -> usize
-    requires { at + 4 ≤ length queue.now }
-    ensures { (result ≡ length_at queue.now at) × (result < 65536) }
-{
-    byte_runs::two(queue[at + 2], queue[at + 3])
-}
-
 // A packet that is not sent: a type that is not 1 or 2, or a length that is not 1 to 4,095.
 fn unsendable(kind: u8, n: usize) -> bool
     ensures { result ≡ unfit kind n }
 {
-    if kind == 0 {
-        return true;
-    }
-    if 2 < kind {
-        return true;
-    }
-    if n == 0 {
-        return true;
-    }
-    4095 < n
+    !(1..=2).contains(&kind) || !(1..=4095).contains(&n)
 }
 
 // The refusal of a queue: 19 for a packet that is not sent, 1 for an end inside a packet or its four bytes, whichever comes first.
-fn fault(queue: &[u8]) -> u8
-    ensures { result ≡ (queue_in 0 queue.now).number }
+fn fault(queue: &[u8]) -> Result<(), Refusal>
+    ensures { status result ≡ (queue_in 0 queue.now).number }
 {
-    let mut at = 0;
-    while at < queue.len() {
-        if queue.len() - at < HEAD {
-            return LENGTH_WRONG;
+    let mut rest = queue;
+    while let [kind, _, high, low, behind @ ..] = rest {
+        let n = byte_runs::two(*high, *low);
+        if unsendable(*kind, n) {
+            return Err(Refusal::PacketsWrong);
         }
-        let n = length_at(queue, at);
-        if unsendable(queue[at], n) {
-            return PACKETS_WRONG;
+        if behind.len() < n {
+            return Err(Refusal::LengthWrong);
         }
-        // no sum over the queue's length, which may be any
-        if queue.len() - at - HEAD < n {
-            return LENGTH_WRONG;
-        }
-        at += HEAD + n;
+        rest = &behind[n..];
     }
-    0
+    if rest.is_empty() {
+        Ok(())
+    } else {
+        Err(Refusal::LengthWrong)
+    }
+}
+
+// The length of the packet that is first.
+fn first_length(queue: &[u8]) -> usize
+    requires { 4 ≤ length queue.now }
+    ensures { (result ≡ length_at queue.now 0) × (result < 65536) }
+{
+    byte_runs::two(queue[2], queue[3])
 }
 
 // Whether `sent` is out of place: above 0 with no packet, 1 (a header is never split), or as much as the first packet and its header.
@@ -76,13 +61,10 @@ fn out_of_place(queue: &[u8], sent: u32) -> bool
     requires { (queue_in 0 queue.now).number ≡ 0 }
     ensures { result ≡ misplaced sent (queue_in 0 queue.now).packets }
 {
-    if queue.len() == 0 {
+    if queue.is_empty() {
         return 0 < sent;
     }
-    if sent == 1 {
-        return true;
-    }
-    length_at(queue, 0) + 1 < sent as usize
+    sent == 1 || first_length(queue) + 1 < sent as usize
 }
 
 // How many bytes of the packet that is open are still to come.
@@ -94,7 +76,7 @@ fn to_come(queue: &[u8], sent: u32) -> u32
         return 0;
     }
     // its header of two bytes is counted
-    length_at(queue, 0) as u32 + 2 - sent
+    first_length(queue) as u32 + 2 - sent
 }
 
 // First_Header_Address: behind what is still to come of the open packet, also where padding begins there.
@@ -103,33 +85,17 @@ fn first_header(queue: &[u8], sent: u32) -> u32
     ensures { result ≡ address sent (queue_in 0 queue.now).packets }
 {
     let r = to_come(queue, sent);
-    if r <= LAST_HEADER {
-        return r;
-    }
-    NO_HEADER
+    if r <= LAST_HEADER { r } else { NO_HEADER }
 }
 
-// Looks at the queue, of whose first packet earlier words carry `sent` bytes, its header counted: the refusal of the queue itself first,
-// then 1 for `sent` out of place; where there is none, the address.
-pub fn look(queue: &[u8], sent: u32) -> Front
-    ensures { result ≡ front_of sent queue.now }
+// Looks at the queue that a word is to be filled from, of whose first packet earlier words carry `sent` bytes, its header counted: why it
+// is refused, that of the queue itself first and then 1 for `sent` out of place; where it is not, First_Header_Address.
+pub fn look(queue: &[u8], sent: u32) -> Result<u32, Refusal>
+    ensures { told result ≡ front_of sent queue.now }
 {
-    let n = fault(queue);
-    if 0 < n {
-        return Front {
-            refusal: n,
-            address: 0,
-        };
-    }
+    fault(queue)?;
     if out_of_place(queue, sent) {
-        return Front {
-            refusal: LENGTH_WRONG,
-            address: 0,
-        };
+        return Err(Refusal::LengthWrong);
     }
-    let address = first_header(queue, sent);
-    Front {
-        refusal: 0,
-        address,
-    }
+    Ok(first_header(queue, sent))
 }

@@ -68,6 +68,11 @@ pub record Step (l : List ℕ) (from start : ℕ) (m0 : List ℕ) (at out : ℕ)
   pub place : at ≤ 1502
   pub head : d ≡ head_in (get_or l at 0) (get_or l (at + 1) 0)
 
+pub step_at : {l : List ℕ} {from start : ℕ} {m0 : List ℕ} {at out : ℕ} {m : List ℕ} {d : Head} → Handing l from start m0 at out m
+    → start + length (queue (walk_from from l).packets) ≤ length m0 → length l ≡ 1504 → at ≤ 1502 → d ≡ head_in (get_or l at 0) (get_or l (at + 1) 0)
+    → Step l from start m0 at out m d
+step_at h f p k e = record { so_far = h; fits = f; payload_is = p; place = k; head = e }
+
 module _ {l : List ℕ} {from start : ℕ} {m0 : List ℕ} {at out : ℕ} {m : List ℕ} {d : Head} (c : Step l from start m0 at out m d) where
   abbrev h : Handing l from start m0 at out m
   h = c.so_far

@@ -2,11 +2,12 @@
 -- Assumes nothing.
 use Prim.Native.Nat.{ℕ, ◌+◌, ◌-◌, ◌≤◌, ◌<◌}
 use mathlib.Core.Path.{◌≡◌, sym, ap, ap₂, ◌∙◌}
-use mathlib.Core.Bool.{true, false}
+use mathlib.Core.Bool.{false}
 use mathlib.Core.List.{List, [], ◌++◌}
 use native.Mathlib.Omega.{arith}
 use lib.ListN.{length, get_or, take, drop, length-append, length-drop}
 use lib.Seq.{take_all, length-take-le}
+use Rattle.std.specs.Prelude.{Some, None}
 use Rattle.byte_runs.specs.Runs.{copied}
 use Rattle.byte_runs.proofs.Runs.{copied_is, copied_length}
 use Rattle.ip.specs.Packet.{Packet}
@@ -17,7 +18,7 @@ use Rattle.ip.proofs.Memory.{open_meant}
 use Rattle.ip_head.specs.declared.Head.{Head}
 use Rattle.ip_open.specs.declared.Opened.{Opened}
 use Rattle.ip_head.specs.Header.{head_in}
-use Rattle.ip_open.specs.Opening.{opened_in}
+use Rattle.ip_open.specs.Opening.{opened_in, where_begun}
 use Rattle.ip_look.specs.Steps.{packet_of, walk_from}
 use Rattle.ip_look.proofs.Walks.{none_reads, begun_runs, begun_ends}
 use Rattle.ip_open.proofs.Means.{means_none, means_begun, means_sound}
@@ -29,24 +30,24 @@ use Rattle.ip_read.proofs.Hands.{queue_room}
 
 -- a packet that begins here: all that follows its header
 pub begun_laid : (m m1 m2 l : List ℕ) (at : ℕ) (d : Head) → length m ≡ 4104 → length l ≡ 1504 → at ≤ 1502 → d ≡ head_in (get_or l at 0) (get_or l (at + 1) 0)
-    → m1 ≡ copied (take (length l - (at + 2)) (drop (at + 2) l)) m 8 → m2 ≡ open_bytes (begun d.kind d.error d.length (take (length l - (at + 2)) (drop 8 m1)))
+    → m1 ≡ copied (take (1504 - (at + 2)) (drop (at + 2) l)) m 8 → m2 ≡ open_bytes (begun d.kind d.error d.length (take (1504 - (at + 2)) (drop 8 m1)))
     → m2 ≡ open_bytes (begun_at at l)
 unfolding head_in
 begun_laid m m1 m2 l at d h k j s e1 e2 =
     let x : List ℕ = drop (at + 2) l in
-    let n : length x ≡ length l - (at + 2) = length-drop (at + 2) l in
-    let z : length l - (at + 2) ≡ 0 + length x = omega arith in
-    let f : m1 ≡ copied x m 8 = e1 ∙ ap (λ (y : List ℕ). copied y m 8) (take_all (length l - (at + 2)) x (omega arith)) in
-    let t : take (length l - (at + 2)) (drop 8 m1) ≡ x =
+    let n : length x ≡ 1504 - (at + 2) = omega (arith, length-drop (at + 2) l) in
+    let z : 1504 - (at + 2) ≡ 0 + length x = omega arith in
+    let f : m1 ≡ copied x m 8 = e1 ∙ ap (λ (y : List ℕ). copied y m 8) (take_all (1504 - (at + 2)) x (omega arith)) in
+    let t : take (1504 - (at + 2)) (drop 8 m1) ≡ x =
     ap₂ (λ (i : ℕ) (y : List ℕ). take i (drop 8 y)) z f ∙ copied_out x m 8 0 (omega arith) in
     e2 ∙ ap (λ (y : List ℕ). open_bytes (begun d.kind d.error d.length y)) t
     ∙ ap (λ (y : Head). open_bytes (begun y.kind y.error y.length (drop (at + 2) l))) s
 
 -- a packet that goes on: the whole payload behind its bytes
-pub further_laid : (m m1 m2 l : List ℕ) (t e n k : ℕ) → length m ≡ 4104 → 8 + k + length l ≤ 4104 → m1 ≡ copied l m (8 + k)
-    → m2 ≡ open_bytes (begun t e n (take (k + length l) (drop 8 m1))) → m2 ≡ open_bytes (begun t e n (take k (drop 8 m) ++ l))
-further_laid m m1 m2 l t e n k h j e1 e2 =
-    e2 ∙ ap (λ (y : List ℕ). open_bytes (begun t e n (take (k + length l) (drop 8 y)))) e1
+pub further_laid : (m m1 m2 l : List ℕ) (t e n k : ℕ) → length m ≡ 4104 → length l ≡ 1504 → k ≤ 2592 → m1 ≡ copied l m (8 + k)
+    → m2 ≡ open_bytes (begun t e n (take (k + 1504) (drop 8 m1))) → m2 ≡ open_bytes (begun t e n (take k (drop 8 m) ++ l))
+further_laid m m1 m2 l t e n k h w j e1 e2 =
+    e2 ∙ ap₂ (λ (i : ℕ) (y : List ℕ). open_bytes (begun t e n (take (k + i) (drop 8 y)))) (sym w) e1
     ∙ ap (λ (y : List ℕ). open_bytes (begun t e n y)) (copied_out l m 8 k (omega arith))
 
 -- a packet that ends: its bytes so far, and those that it lacked
@@ -67,15 +68,18 @@ ended_put m m1 m2 m3 memory l t e n k r hm hn hk hr h e1 e2 e3 =
     e3 ∙ ap₂ (λ (w : List ℕ) (j : ℕ). copied x w j) a i ∙ copied_behind (four ++ y) x m 0 (omega arith)
     ∙ ap (λ (j : ℕ). copied (four_of t e j ++ (y ++ x)) m 0) z
 
--- ---- a word that is not refused, with the open packet that the memory means
-pub record Word (m l before : List ℕ) (address : ℕ) (o : Opened) : Type 0 where
-  pub meant : o ≡ opened_in m
+-- ---- a word that is not refused
+pub record Word (m l before : List ℕ) (address : ℕ) : Type 0 where
   pub memory_is : length m ≡ 4104
   pub payload_is : length l ≡ 1504
   pub room_is : 6604 ≤ length before
   pub accepted : (reading (open_in m) address l).refused ≡ false
 
-module _ {m l before : List ℕ} {address : ℕ} {o : Opened} (x : Word m l before address o) where
+pub word_in : {m l before : List ℕ} {address : ℕ} → length m ≡ 4104 → length l ≡ 1504 → 6604 ≤ length before → (reading (open_in m) address l).refused ≡ false
+    → Word m l before address
+word_in h k r a = record { memory_is = h; payload_is = k; room_is = r; accepted = a }
+
+module _ {m l before : List ℕ} {address : ℕ} (x : Word m l before address) where
   abbrev g : Got
   g = reading (open_in m) address l
 
@@ -89,9 +93,9 @@ module _ {m l before : List ℕ} {address : ℕ} {o : Opened} (x : Word m l befo
       copied_is q before 0 (omega (arith, enough, x.room_is)) ∙ ap (λ (i : ℕ). q ++ drop i before) z
 
   -- none is open
-  module _ (e : o.begun ≡ false) where
+  module _ (e : None ≡ where_begun (opened_in m)) where
     none_is : g ≡ walk_from address l
-    none_is = ap (λ (y : Open). reading y address l) (means_none m o x.meant e) ∙ none_reads address l
+    none_is = ap (λ (y : Open). reading y address l) (means_none m e) ∙ none_reads address l
 
     pub none_accepted : (walk_from address l).refused ≡ false
     none_accepted = ap (λ (y : Got). y.refused) (sym none_is) ∙ x.accepted
@@ -110,7 +114,7 @@ module _ {m l before : List ℕ} {address : ℕ} {o : Opened} (x : Word m l befo
         }
 
   -- a packet is open
-  module _ (e : o.begun ≡ true) where
+  module _ {o : Opened} (e : Some o ≡ where_begun (opened_in m)) where
     abbrev s : List ℕ
     s = take o.sofar (drop 8 m)
 
@@ -121,13 +125,13 @@ module _ {m l before : List ℕ} {address : ℕ} {o : Opened} (x : Word m l befo
     open_now = begun o.kind o.error o.length s
 
     begun_is : g ≡ reading open_now address l
-    begun_is = ap (λ (y : Open). reading y address l) (means_begun m o x.meant e)
+    begun_is = ap (λ (y : Open). reading y address l) (means_begun m o e)
 
     begun_ok : (reading open_now address l).refused ≡ false
     begun_ok = ap (λ (y : Got). y.refused) (sym begun_is) ∙ x.accepted
 
     to_come_lem : o.length - length s ≡ rest
-    to_come_lem = ap (λ (i : ℕ). o.length - i) (means_sound m o x.meant x.memory_is e).2
+    to_come_lem = ap (λ (i : ℕ). o.length - i) (means_sound m o x.memory_is e).2
 
     pub runs_taken : (mem : List ℕ) → length l < rest → mem ≡ open_bytes (begun o.kind o.error o.length (s ++ l)) → TakenIn g mem before before 0
     unfolding queue
@@ -158,7 +162,7 @@ module _ {m l before : List ℕ} {address : ℕ} {o : Opened} (x : Word m l befo
 
       long : length (queued p) ≡ 4 + o.length
       long =
-          let n = means_sound m o x.meant x.memory_is e in
+          let n = means_sound m o x.memory_is e in
           omega (arith, n.1, n.2, length-append s (take rest l), length-take-le rest l j)
 
       count : length (queue g.packets) ≡ 4 + o.length + length (queue (walk_from rest l).packets)

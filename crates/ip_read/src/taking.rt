@@ -7,9 +7,9 @@ ghost use Rattle.ip_look.specs.Steps.{packet_of, walk_from};
 ghost use Rattle.ip_read.specs.Steps.{four_of, begun_at, HandedOut, Followed, TakenIn};
 
 use crate::held::{FRONT, settle};
-use crate::numbers::put4;
 use ip_head::LAST_HEADER;
-use ip_open::Opened;
+use ip_look::PAYLOAD;
+use ip_open::{Opened, ROOM};
 
 // Where the walk over the headers stands, and how much is handed out.
 #[derive(Clone, Copy)]
@@ -20,17 +20,11 @@ pub struct Place {
 
 // The four bytes before a packet that is handed out: type, error, length.
 fn put_four(packets: &mut [u8], out: usize, kind: u8, error: u8, size: usize)
-    requires { (out + 4 ≤ length packets.old) × (size < 65536) }
+    requires { size < 65536 }
     ensures { packets.new ≡ copied (four_of kind error size) packets.old out }
 {
-    put4(
-        packets,
-        out,
-        kind,
-        error,
-        (size / 256) as u8,
-        (size % 256) as u8,
-    );
+    let [n1, n2] = (size as u16).to_be_bytes();
+    byte_runs::copy(&[kind, error, n1, n2], packets, out);
 }
 
 // A packet at a place of what is handed out.
@@ -44,8 +38,8 @@ fn put_packet(packets: &mut [u8], out: usize, kind: u8, error: u8, run: &[u8])
 
 // Hands out the packets that are whole, from the header at a place on. The walk ends at a packet that runs on, where no header fits,
 // and at FF FF, whose length of 4,095 runs on too.
-fn hand_out(payload: &[u8], from: usize, packets: &mut [u8], start: usize) -> Place
-    requires { (length payload.now ≡ 1504) × ((walk_from from payload.now).refused ≡ false)
+fn hand_out(payload: &[u8; PAYLOAD], from: usize, packets: &mut [u8], start: usize) -> Place
+    requires { ((walk_from from payload.now).refused ≡ false)
         × (start + length (queue (walk_from from payload.now).packets) ≤ length packets.old) }
     ensures { HandedOut payload.now from start packets.old packets.new result }
 {
@@ -66,8 +60,8 @@ fn hand_out(payload: &[u8], from: usize, packets: &mut [u8], start: usize) -> Pl
 }
 
 // The packet whose header stands at a place runs on: what is there of it becomes the open packet.
-fn begin(payload: &[u8], at: usize, memory: &mut [u8])
-    requires { (length payload.now ≡ 1504) × (at ≤ 1502) × (length memory.old ≡ 4104) }
+fn begin(payload: &[u8; PAYLOAD], at: usize, memory: &mut [u8; ROOM])
+    requires { at ≤ 1502 }
     ensures { memory.new ≡ open_bytes (begun_at at payload.now) }
 {
     let head = ip_head::head_of(payload[at], payload[at + 1]);
@@ -76,7 +70,6 @@ fn begin(payload: &[u8], at: usize, memory: &mut [u8])
     settle(
         memory,
         Opened {
-            begun: true,
             kind: head.kind,
             error: head.error,
             length: head.length,
@@ -86,25 +79,26 @@ fn begin(payload: &[u8], at: usize, memory: &mut [u8])
 }
 
 // What is open where the walk ended: a packet that runs on, or none.
-fn keep(payload: &[u8], at: usize, memory: &mut [u8])
-    requires { (length payload.now ≡ 1504) × (length memory.old ≡ 4104) × ((walk_from at payload.now).refused ≡ false)
-        × ((walk_from at payload.now).packets ≡ []) }
+fn keep(payload: &[u8; PAYLOAD], at: usize, memory: &mut [u8; ROOM])
+    requires { ((walk_from at payload.now).refused ≡ false) × ((walk_from at payload.now).packets ≡ []) }
     ensures { memory.new ≡ open_bytes (walk_from at payload.now).after }
 {
-    if LAST_HEADER < at {
-        byte_runs::fill(memory, 0, 0);
-        return;
+    if LAST_HEADER < at || ip_head::is_padding(payload[at], payload[at + 1]) {
+        memory.fill(0);
+    } else {
+        begin(payload, at, memory);
     }
-    if ip_head::is_padding(payload[at], payload[at + 1]) {
-        byte_runs::fill(memory, 0, 0);
-        return;
-    }
-    begin(payload, at, memory);
 }
 
 // From the header at a place on: whole packets behind those that are handed out already, and what is then open into the memory.
-fn follow(payload: &[u8], from: usize, memory: &mut [u8], packets: &mut [u8], start: usize) -> usize
-    requires { (length payload.now ≡ 1504) × (length memory.old ≡ 4104) × ((walk_from from payload.now).refused ≡ false)
+fn follow(
+    payload: &[u8; PAYLOAD],
+    from: usize,
+    memory: &mut [u8; ROOM],
+    packets: &mut [u8],
+    start: usize,
+) -> usize
+    requires { ((walk_from from payload.now).refused ≡ false)
         × (start + length (queue (walk_from from payload.now).packets) ≤ length packets.old) }
     ensures { Followed (walk_from from payload.now) start memory.new packets.old packets.new result }
 {
@@ -114,8 +108,8 @@ fn follow(payload: &[u8], from: usize, memory: &mut [u8], packets: &mut [u8], st
 }
 
 // The open packet takes the whole payload and runs on.
-fn go_on(payload: &[u8], memory: &mut [u8], o: Opened)
-    requires { (length payload.now ≡ 1504) × (length memory.old ≡ 4104) × (o.length ≤ 4095) × (o.sofar + 1504 < o.length) }
+fn go_on(payload: &[u8; PAYLOAD], memory: &mut [u8; ROOM], o: Opened)
+    requires { (o.length ≤ 4095) × (o.sofar + 1504 < o.length) }
     ensures { memory.new
         ≡ open_bytes (begun o.kind o.error o.length (take o.sofar (drop 8 memory.old) ++ payload.now)) }
 {
@@ -123,19 +117,21 @@ fn go_on(payload: &[u8], memory: &mut [u8], o: Opened)
     settle(
         memory,
         Opened {
-            begun: true,
-            kind: o.kind,
-            error: o.error,
-            length: o.length,
             sofar: o.sofar + payload.len(),
+            ..o
         },
     );
 }
 
 // The open packet ends in this payload: its bytes so far and those that it lacked are handed out first.
-fn hand_over(payload: &[u8], rest: usize, memory: &[u8], o: Opened, packets: &mut [u8])
-    requires { (length memory.now ≡ 4104) × (o.length ≤ 4095) × (o.sofar + rest ≡ o.length) × (rest ≤ length payload.now)
-        × (4 + o.length ≤ length packets.old) }
+fn hand_over(
+    payload: &[u8; PAYLOAD],
+    rest: usize,
+    memory: &[u8; ROOM],
+    o: Opened,
+    packets: &mut [u8],
+)
+    requires { (o.length ≤ 4095) × (o.sofar + rest ≡ o.length) × (rest ≤ 1504) × (4 + o.length ≤ length packets.old) }
     ensures { packets.new
         ≡ copied (queued (packet_of o.kind o.error (take o.sofar (drop 8 memory.now) ++ take rest payload.now))) packets.old 0 }
 {
@@ -146,15 +142,19 @@ fn hand_over(payload: &[u8], rest: usize, memory: &[u8], o: Opened, packets: &mu
 }
 
 // Takes in a payload that is not refused: what is handed out goes to the front of packets, and its length is returned.
-pub fn take_in(payload: &[u8], address: usize, memory: &mut [u8], packets: &mut [u8]) -> usize
-    requires { (length payload.now ≡ 1504) × (length memory.old ≡ 4104) × (6604 ≤ length packets.old)
+pub fn take_in(
+    payload: &[u8; PAYLOAD],
+    address: usize,
+    memory: &mut [u8; ROOM],
+    packets: &mut [u8],
+) -> usize
+    requires { (6604 ≤ length packets.old)
         × ((reading (open_in memory.old) address payload.now).refused ≡ false) }
     ensures { TakenIn (reading (open_in memory.old) address payload.now) memory.new packets.old packets.new result }
 {
-    let o = ip_open::open_in(memory);
-    if !o.begun {
+    let Some(o) = ip_open::open_in(memory) else {
         return follow(payload, address, memory, packets, 0);
-    }
+    };
     let rest = o.length - o.sofar;
     if payload.len() < rest {
         go_on(payload, memory, o);

@@ -7,6 +7,7 @@ use contract.Lifetimes.{Lfts}
 use borrow.Fn.World.{ArgsD, ResD}
 use borrow.Fn.Kinds.{ended_of}
 use denote.Triple.Clauses.{AtExit}
+use Rattle.ground.specs.Refusals.{status}
 use Rattle.ip_write.specs.contracts.write as write
 use Rattle.ip_write.proofs.write.Kinds as write_kinds
 use Rattle.ip_write.proofs.write.Reads as write_reads
@@ -25,15 +26,15 @@ use Rattle.ip_streams.proofs.Kept.{a_write, a_read, a_loss, back, Keeping, AllWr
 
 -- a call ip_write::write(id, sent, queue, word, progress)
 abbrev write_call : (κs : Lfts 3) → ArgsD write.signature κs → ResD write.signature κs → AtExit (ended_of 3 write_kinds.ps write_kinds.r) κs → WriteCall
-write_call κs a r s = a_write a.0 a.1.0 a.1.1.0.now a.1.1.1.0.now a.1.1.1.1.0.now r s.1.1.1.0.now s.1.1.1.1.0.now
+write_call κs a r s = a_write a.0 a.1.0 a.1.1.0.now a.1.1.1.0.now a.1.1.1.1.0.now (status r) s.1.1.1.0.now s.1.1.1.1.0.now
 
 -- a call ip_read::read(word, memory, packets, header)
 abbrev read_call : (κs : Lfts 4) → ArgsD read.signature κs → ResD read.signature κs → AtExit (ended_of 4 read_kinds.ps read_kinds.r) κs → ReadCall
-read_call κs a r s = a_read a.0.now a.1.0.now a.1.1.0.now a.1.1.1.0.now r s.1.0.now s.1.1.0.now s.1.1.1.0.now
+read_call κs a r s = a_read a.0.now a.1.0.now a.1.1.0.now a.1.1.1.0.now (status r) s.1.0.now s.1.1.0.now s.1.1.1.0.now
 
 -- a call ip_open::lost(memory)
 abbrev lost_call : (κs : Lfts 1) → ArgsD lost.signature κs → ResD lost.signature κs → AtExit (ended_of 1 lost_kinds.ps lost_kinds.r) κs → LostCall
-lost_call κs a r s = a_loss a.0.now r s.0.now
+lost_call κs a r s = a_loss a.0.now (status r) s.0.now
 
 -- calls that kept the functions' promises
 pub record Writes (c : WriteCall) : Type 1 where

@@ -52,5 +52,5 @@ module _ (c : WriteCall) (did : Wrote c) (z : c.answer ≡ 0) where
 pub damage_refused : (c : WriteCall) (a : ReadCall) → Wrote c → Did a → DamageRefused c a
 damage_refused c a wrote did i d z m r h =
     let five : a.answer ≡ 5 =
-    answer_is a did ∙ sym (word_wrong a.word a.held (length a.packets) (length a.header) m r h 5 (written_damaged c wrote z a.word i d) (omega arith)) in
+    answer_is a did ∙ sym (word_wrong a.word a.held (length a.packets) (length a.header) m r h 5 (written_damaged c wrote z a.word i d) (λ z. omega arith)) in
     (five, refused_leaves a did (λ e. omega (arith, five, e)))

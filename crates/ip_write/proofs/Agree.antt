@@ -5,7 +5,7 @@ use contract.Lifetimes.{Lfts}
 use borrow.Fn.World.{ArgsD, ResD}
 use borrow.Fn.Kinds.{ended_of}
 use denote.Triple.Clauses.{AtExit}
-use Rattle.ground.proofs.Outcome.{agree}
+use Rattle.ground.proofs.Refusals.{agree_status}
 use Rattle.ip_write.specs.contracts.write as write
 use Rattle.ip_write.proofs.write.Kinds as write_kinds
 use Rattle.ip_write.proofs.write.Reads as write_reads
@@ -15,5 +15,5 @@ module _ (κs : Lfts 3) (a : ArgsD write.signature κs) where
       write_reads.Post κs a r s → write_reads.Post κs a r' s'
       → (r ≡ r') × (s.1.1.1.0.now ≡ s'.1.1.1.0.now) × (s.1.1.1.1.0.now ≡ s'.1.1.1.1.0.now)
   write_agrees r r' s s' p q =
-      let e = agree p.0 q.0 in
+      let e = agree_status p.0 q.0 in
       (e.0, ap (λ x. x.0) e.1, ap (λ x. x.1) e.1)

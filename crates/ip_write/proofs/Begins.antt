@@ -22,10 +22,10 @@ use Rattle.ip_write.proofs.Laying.{copied_take, copied_last}
 -- ---- the word that begins with what is left of a packet; b is the place of that in the queue
 module _ (q : List ℕ) (sent : ℕ) (k : Partly q sent) where
   -- more is left than a word holds
-  pub first_runs : (m m' : List ℕ) (b : ℕ) → length m ≡ 1504 → 1504 < length_at q 0 + 2 - sent → b ≡ sent + 2
-      → m' ≡ copied (take 1504 (drop b q)) m 0 → Carries sent (queue_in 0 q).packets m' 0 (sent + 1504)
+  pub first_runs : (m m' : List ℕ) (b n : ℕ) → length m ≡ 1504 → 1504 < length_at q 0 + 2 - sent → b ≡ sent + 2 → n ≡ 1504
+      → m' ≡ copied (take n (drop b q)) m 0 → Carries sent (queue_in 0 q).packets m' 0 (sent + 1504)
   unfolding queue
-  first_runs m m' b room r hb e =
+  first_runs m m' b n room r hb hn e =
       let c : word_fill sent (queue_in 0 q).packets ≡ cut 1504 sent (packet_at q 0) =
       ap (word_fill sent) k.packets
       ∙ fill_runs 1504 sent (packet_at q 0) (queue_at q (0 + 4 + length_at q 0)).packets (may_begin 1504 sent (omega arith)) (omega (arith, k.rest_length)) in
@@ -35,24 +35,24 @@ module _ (q : List ℕ) (sent : ℕ) (k : Partly q sent) where
       sym (take-take 1504 (length_at q 0 + 2 - sent) (drop (sent + 2) q) (omega arith)) ∙ ap (take 1504) (sym k.rest_is) in
       record {
         bytes =
-            e ∙ ap (λ (z : ℕ). copied (take 1504 (drop z q)) m 0) hb ∙ copied_last x m 0 (omega arith) (omega arith) ∙ t
+            e ∙ ap₂ (λ (y z : ℕ). copied (take y (drop z q)) m 0) hn hb ∙ copied_last x m 0 (omega arith) (omega arith) ∙ t
             ∙ sym (ap (λ (f : Filled). f.bytes) c);
         done = sym (ap (λ (f : Filled). length (queue (take f.done (queue_in 0 q).packets))) c);
         rest = sym (ap (λ (f : Filled). f.sent) c);
       }
 
   -- all that is left fits, and the next packet follows
-  module _ (m m' : List ℕ) (b left end : ℕ) (room : length m ≡ 1504) (is : left ≡ length_at q 0 + 2 - sent) (fits : left ≤ 1504)
-      (hb : b ≡ sent + 2) (he : end ≡ b + left) (e : m' ≡ copied (take left (drop b q)) m 0) where
+  module _ (m m' : List ℕ) (b left end n : ℕ) (room : length m ≡ 1504) (is : left ≡ length_at q 0 + 2 - sent) (fits : left ≤ 1504)
+      (hb : b ≡ sent + 2) (he : end ≡ b + left) (hn : n ≡ left) (e : m' ≡ copied (take n (drop b q)) m 0) where
     is_rest : m' ≡ copied (rest sent (packet_at q 0)) m 0
-    is_rest = e ∙ ap₂ (λ (y z : ℕ). copied (take y (drop z q)) m 0) is hb ∙ ap (λ (l : List ℕ). copied l m 0) (sym k.rest_is)
+    is_rest = e ∙ ap₂ (λ (y z : ℕ). copied (take y (drop z q)) m 0) (hn ∙ is) hb ∙ ap (λ (l : List ℕ). copied l m 0) (sym k.rest_is)
 
     place : end ≡ 0 + 4 + length_at q 0
     place = omega (arith, k.low, k.high)
 
     pub first_laid : Laid q m' left end
     first_laid = record {
-      size = ap length e ∙ copied_length (take left (drop b q)) m 0 ∙ room;
+      size = ap length e ∙ copied_length (take n (drop b q)) m 0 ∙ room;
       at_most = fits;
       from_most = omega (arith, place, k.ends);
       small = omega (arith, place, k.most);
@@ -79,9 +79,6 @@ module _ (q : List ℕ) (sent : ℕ) (k : Partly q sent) where
         }
 
 -- ---- the word that begins with a header
-
-pub none_laid : (q m : List ℕ) → (queue_in 0 q).number ≡ 0 → length m ≡ 1504 → Laid q m 0 0
-none_laid q m clean room = record { size = room; at_most = omega arith; from_most = omega arith; small = omega arith; clean = clean }
 
 pub none_carries : (q m m' : List ℕ) (sent d s : ℕ) → sent ≡ 0 → Ended q m 0 0 m' d s → Carries sent (queue_in 0 q).packets m' d s
 none_carries q m m' sent d s z e =

@@ -1,16 +1,18 @@
 -- Laws of what is put behind the payload: the address over the zeros behind Parity_Parts, and the header closed over it.
 -- Assumes nothing.
-use Prim.Native.Nat.{ℕ, ◌+◌, ◌*◌, ◌/◌, ◌%◌, ◌≤◌, ◌<◌}
-use mathlib.Core.Path.{◌≡◌, refl, sym, ap, ap₂, ◌∙◌, subst}
+use Prim.Native.Nat.{ℕ, ◌+◌, ◌-◌, ◌*◌, ◌/◌, ◌%◌, ◌≤◌, ◌<◌}
+use mathlib.Core.Path.{◌≡◌, refl, sym, ap, ap₂, ◌∙◌}
 use mathlib.Core.List.{List, [], ◌∷◌, ◌++◌, append_assoc, append-nil}
 use native.Mathlib.Omega.{arith}
 use borrow.Author.Tests.{eq-eqb}
 use lib.ListN.{length, take, drop, set, length-append, length-drop, take-append-drop, drop_of_length-le}
 use lib.Seq.{take_at, take_all, length-take-le, set_at}
 use Rattle.ground.proofs.Choice.{choose_true}
+use Rattle.std.specs.Int.{w32, to_be_bytes}
+use borrow.Rule.Slice.PartMut.{put_mid}
 use Rattle.bits.specs.Lists.{bits, num, pack}
 use Rattle.bits.proofs.Lists.{bits_length, num_bits, pack_length, pack_append}
-use Rattle.bits.proofs.Numbers.{bits_join}
+use Rattle.bits.proofs.Numbers.{bits_join, pack_32}
 use Rattle.parity.specs.Part.{parts_of}
 use Rattle.infoword.specs.Word.{fields49, word_with, ip_word}
 use Rattle.infoword.specs.Steps.{parted, sealed, closing}
@@ -95,11 +97,10 @@ module _ (w : List ℕ) (id address : ℕ) (n : length w ≡ 1536) (i : id < 256
       ∙ word_length 3 id address p (omega (arith, p_length))
 
 -- two numbers in eight bytes
-pub eight : (l l1 l2 : List ℕ) (a b : ℕ) → length l ≡ 8 → l1 ≡ take 0 l ++ pack 4 (bits 32 a) ++ drop 4 l → l2 ≡ take 4 l1 ++ pack 4 (bits 32 b) ++ drop 8 l1
-    → l2 ≡ pack 4 (bits 32 a) ++ pack 4 (bits 32 b)
-eight l l1 l2 a b n e f =
-    let x : List ℕ = pack 4 (bits 32 a) in
-    let y : List ℕ = pack 4 (bits 32 b) in
-    let k : length x ≡ 4 = pack_length 4 (bits 32 a) in
-    let m : length l1 ≤ 8 = subst (λ (z : List ℕ). length z ≤ 8) (sym e) (omega (arith, length-append x (drop 4 l), length-drop 4 l)) in
-    f ∙ ap₂ (λ (u v : List ℕ). u ++ y ++ v) (ap (take 4) e ∙ take_at x (drop 4 l) 4 k) (drop_of_length-le l1 m) ∙ append-nil (x ++ y)
+pub eight : (l : List ℕ) (a b : ℕ) → length l ≡ 8
+    → put_mid 4 (length (to_be_bytes w32 a ++ drop 4 l) - 4) (to_be_bytes w32 a ++ drop 4 l) (to_be_bytes w32 b) ≡ pack 4 (bits 32 a) ++ pack 4 (bits 32 b)
+eight l a b n =
+    let x : List ℕ = to_be_bytes w32 a ++ drop 4 l in
+    let k : length (drop 4 x) ≤ length x - 4 = omega (arith, length-drop 4 x) in
+    ap (λ (t : List ℕ). to_be_bytes w32 a ++ (to_be_bytes w32 b ++ t)) (drop_of_length-le (drop 4 x) k)
+    ∙ ap₂ (λ (u v : List ℕ). u ++ v) (sym (pack_32 a)) (append-nil (to_be_bytes w32 b) ∙ sym (pack_32 b))

@@ -5,10 +5,10 @@ use mathlib.Core.Path.{◌≡◌, refl, sym, ap, ap₂, ◌∙◌, subst}
 use mathlib.Core.List.{List, [], ◌∷◌, ◌++◌, append_assoc, append-nil}
 use native.Mathlib.Decide.{dec_lt}
 use native.Mathlib.Nat.{zero-add}
-use native.Mathlib.Numerals.{add-one}
 use native.Mathlib.Omega.{arith}
-use lib.ListN.{length, take, drop, set, replicate, length-append, drop_of_length-le}
-use lib.Seq.{sets-eq, take_all, take_at, drop_at, drop-drop, take-take, take-append-add, length-take-le}
+use lib.ListN.{length, take, drop, replicate, length-append, drop_of_length-le}
+use lib.Seq.{take_all, take_at, drop_at, drop-drop, take-take, take-append-add, length-take-le}
+use Rattle.std.specs.Int.{w16, to_be_bytes}
 use Rattle.bits.specs.Lists.{bits, pack}
 use Rattle.bits.proofs.Numbers.{bits_join, pack_16}
 use Rattle.byte_runs.specs.Runs.{copied, filled_from}
@@ -72,26 +72,23 @@ copied_both x y m at h =
     ∙ ap (λ (l : List ℕ). l ++ drop (at + length (x ++ y)) m) (append_assoc (take at m) x y)
     ∙ sym (copied_is (x ++ y) m at hb)
 
--- two bytes stored one behind the other
-pub two_stored : (a b : ℕ) (m : List ℕ) (at : ℕ) → at + 2 ≤ length m → set (set m at a) (at + 1) b ≡ copied (a ∷ b ∷ []) m at
-two_stored a b m at h =
-    ap (λ (k : ℕ). set (set m at a) k b) (add-one at) ∙ sets-eq (a ∷ b ∷ []) m at h ∙ sym (copied_is (a ∷ b ∷ []) m at h)
-
 -- ---- the packet at a place of the queue
 module _ (q : List ℕ) (from : ℕ) (waits : Waits q from) where
   w : Waiting q from
   w = waiting q from waits.0 waits.1
 
   -- its header, of which v is the number
-  pub header_put_lem : (m : List ℕ) (at v : ℕ) → at + 2 ≤ length m → v ≡ header_number (packet_at q from).kind (packet_at q from).error (length_at q from)
-      → set (set m at (v / 256 % 256)) (at + 1) (v % 256) ≡ copied (header (packet_at q from)) m at
-  unfolding w
-  header_put_lem m at v h e =
-      let p : Packet = packet_at q from in
-      let i : v ≡ header_number p.kind p.error (length p.bytes) = e ∙ ap (header_number p.kind p.error) (sym w.long) in
-      two_stored (v / 256 % 256) (v % 256) m at h
-      ∙ ap (λ (x : ℕ). copied (x / 256 % 256 ∷ x % 256 ∷ []) m at) i
-      ∙ ap (λ (l : List ℕ). copied l m at) (sym (header_is p w.fit))
+  module _ (v : ℕ) (is : v ≡ header_number (packet_at q from).kind (packet_at q from).error (length_at q from)) where
+    pub header_small : v < 65536
+    unfolding w
+    header_small = omega (arith, w.fit.error_bit, w.kind_most, w.most)
+
+    pub header_put_lem : (m m' : List ℕ) (at : ℕ) → m' ≡ copied (to_be_bytes w16 v) m at → m' ≡ copied (header (packet_at q from)) m at
+    unfolding w
+    header_put_lem m m' at e =
+        let p : Packet = packet_at q from in
+        let i : v ≡ header_number p.kind p.error (length p.bytes) = is ∙ ap (header_number p.kind p.error) (sym w.long) in
+        e ∙ ap (λ (x : ℕ). copied (x / 256 % 256 ∷ x % 256 ∷ []) m at) i ∙ ap (λ (l : List ℕ). copied l m at) (sym (header_is p w.fit))
 
   -- its header and its first n bytes
   pub packet_put : (m m' m'' : List ℕ) (at n : ℕ) → n ≤ length_at q from → at + 2 + n ≤ length m → m' ≡ copied (header (packet_at q from)) m at

@@ -1,15 +1,10 @@
 -- What the writer's functions promise each other: a payload is laid up to a place, from the queue up to a place.
 -- Assumes nothing.
-use Rattle.std.specs.Prelude.{ℕ, ◌+◌, ◌-◌, ◌*◌, ◌≤◌, ◌<◌, not, ◌≡◌, List, [], ◌∷◌, ◌++◌, eqb, length, take}
-use Rattle.ground.specs.Choice.{Fault, refuse}
+use Rattle.std.specs.Prelude.{ℕ, ◌+◌, ◌-◌, ◌*◌, ◌≤◌, ◌<◌, ◌≡◌, List, ◌++◌, length, take}
 use Rattle.ip.specs.Packet.{Packet, header}
 use Rattle.ip.specs.Write.{Filled, fill, word_fill}
 use Rattle.ip.specs.Memory.{queue}
 use Rattle.ip_queue.specs.Places.{queue_at, length_at}
-
--- the writer's refusals where n is that of the queue and `sent`: then 1 for the lengths of word and progress
-abbrev pub call_faults : ℕ → ℕ → ℕ → List Fault
-call_faults n word progress = refuse n (not (eqb n 0)) ∷ refuse 1 (not (eqb word 1536)) ∷ refuse 1 (not (eqb progress 8)) ∷ []
 
 -- a packet's header as one number: IP_Packet_Type, IP_Packet_Error, IP_Packet_Length, RFU 0 (table 6)
 abbrev pub header_number : ℕ → ℕ → ℕ → ℕ

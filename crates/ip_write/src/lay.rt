@@ -17,7 +17,8 @@ pub const PAYLOAD: usize = 1504;
 // A packet's header in the stream, in bytes (table 6).
 const HEADER: usize = 2;
 
-// Up to where the payload is laid, and up to where the queue is done with.
+// Up to where the payload is laid, and up to where the queue is done with. Queue and payload are no fields of it: lent as one, each step
+// would have to promise that the queue and the places stay.
 #[derive(Clone, Copy)]
 struct Place {
     at: usize,
@@ -31,7 +32,7 @@ pub struct Progress {
     pub sent: u32,
 }
 
-// The length of the packet at a place of the queue.
+// The length of the packet at a place of the queue. ip_queue has its own for the first: a public one could not ask that the bytes are there.
 fn length_at(queue: &[u8], at: usize) -> usize
     requires { at + 4 ≤ length queue.now }
     ensures { (result ≡ length_at queue.now at) × (result < 65536) }
@@ -53,9 +54,8 @@ fn put_header(queue: &[u8], from: usize, payload: &mut [u8], at: usize)
     ensures { payload.new ≡ copied (header (packet_at queue.now from)) payload.old at }
 {
     let n = length_at(queue, from);
-    let v = header_number(queue[from], queue[from + 1], n);
-    payload[at] = (v / 256 % 256) as u8;
-    payload[at + 1] = (v % 256) as u8;
+    let v = header_number(queue[from], queue[from + 1], n) as u16;
+    byte_runs::copy(&v.to_be_bytes(), payload, at);
 }
 
 // n bytes of the queue from a place on.
@@ -80,8 +80,7 @@ fn put_packets(queue: &[u8], payload: &mut [u8], place: Place) -> Place
     requires { Laid queue.now payload.old place.at place.from }
     ensures { Laid queue.now payload.new result.at result.from × Same queue.now payload.old place.at place.from payload.new result.at result.from × NoneFits queue.now result.at result.from }
 {
-    let mut at = place.at;
-    let mut from = place.from;
+    let Place { mut at, mut from } = place;
     while from < queue.len() {
         let n = length_at(queue, from);
         if PAYLOAD - at < n + HEADER {
@@ -98,11 +97,8 @@ fn put_packets(queue: &[u8], payload: &mut [u8], place: Place) -> Place
 fn begins(at: usize, from: usize, end: usize) -> bool
     ensures { (result ≡ true → (from < end) × (at ≤ 1502)) × (result ≡ false → from < end → 1502 < at) }
 {
-    if end <= from {
-        return false;
-    }
     // at 1,503 it waits for the next word
-    ip_head::fits(at)
+    from < end && ip_head::fits(at)
 }
 
 // What is left of the payload behind whole packets: a packet is begun, at 1,502 with none of its data; or all of it is FF, the header FF FF
@@ -111,8 +107,7 @@ fn put_end(queue: &[u8], payload: &mut [u8], place: Place) -> Progress
     requires { Laid queue.now payload.old place.at place.from × NoneFits queue.now place.at place.from }
     ensures { Ended queue.now payload.old place.at place.from payload.new result.done result.sent }
 {
-    let at = place.at;
-    let from = place.from;
+    let Place { at, from } = place;
     if begins(at, from, queue.len()) {
         put_packet(queue, from, PAYLOAD - HEADER - at, payload, at);
         return Progress {
@@ -147,14 +142,13 @@ pub fn fill(queue: &[u8], sent: u32, payload: &mut [u8]) -> Progress
     // `sent` counts the header: from here on the first packet's data is still to come, and this much of it
     let begin = sent as usize + HEAD - HEADER;
     let left = length_at(queue, 0) + HEADER - sent as usize;
+    put_part(queue, begin, left.min(PAYLOAD), payload, 0);
     if PAYLOAD < left {
-        put_part(queue, begin, PAYLOAD, payload, 0);
         return Progress {
             done: 0,
             sent: sent + PAYLOAD as u32,
         };
     }
-    put_part(queue, begin, left, payload, 0);
     put_rest(
         queue,
         payload,

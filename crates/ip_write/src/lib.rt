@@ -5,38 +5,21 @@ mod lay;
 
 ghost use Rattle.std.specs.Prelude.{◌≡◌, ◌++◌, ◌+◌, ◌<◌, length, take};
 ghost use Rattle.ground.specs.Outcome.{Is};
-ghost use Rattle.ground.specs.Choice.{first_of};
+ghost use Rattle.ground.specs.Refusals.{status};
 ghost use Rattle.bits.specs.Lists.{bits, pack};
 ghost use Rattle.infoword.specs.Word.{ip_word};
-ghost use Rattle.ip_write.specs.Steps.{call_faults};
 ghost use Rattle.ip_write.specs.Writing.{written};
 
-use ground::{LENGTH_WRONG, PAYLOAD_WORD};
+use ground::PAYLOAD_WORD;
+use ground::refusal::Refusal;
 use infoword::IP_STREAM;
 use lay::Progress;
-use wide::Wide;
 
 // Two numbers of four bytes.
 const PROGRESS: usize = 8;
 
 // The byte with the first eight bits of First_Header_Address; its last four begin the last four bytes of the word (table 5).
 const ADDRESS: usize = 1531;
-
-// The refusal of a write: that of the queue and `sent`, and then by the lengths of word and progress.
-fn refusal(n: u8, word: usize, progress: usize) -> u8
-    ensures { result ≡ first_of (call_faults n word progress) }
-{
-    if 0 < n {
-        return n;
-    }
-    if word != PAYLOAD_WORD {
-        return LENGTH_WRONG;
-    }
-    if progress != PROGRESS {
-        return LENGTH_WRONG;
-    }
-    0
-}
 
 // What stands behind the payload (table 5): Parity_Parts, RFU 0, First_Header_Address, and what ends every word.
 fn close(word: &mut [u8], id: u8, address: u32)
@@ -57,32 +40,27 @@ fn put_progress(progress: &mut [u8], p: Progress)
     requires { length progress.old ≡ 8 }
     ensures { progress.new ≡ pack 4 (bits 32 p.done) ++ pack 4 (bits 32 p.sent) }
 {
-    let first = Wide {
-        acc: 0,
-        used: 0,
-        at: 0,
-    };
-    wide::put(progress, first, p.done as u64, 32);
-    let second = Wide {
-        acc: 0,
-        used: 0,
-        at: 4,
-    };
-    wide::put(progress, second, p.sent as u64, 32);
+    progress[..4].copy_from_slice(&p.done.to_be_bytes());
+    progress[4..].copy_from_slice(&p.sent.to_be_bytes());
 }
 
 // Writes the next word of an IP stream from the queue, of whose first packet earlier words carry `sent` bytes, its header counted, and how
-// much of the queue is done with; returns 0. A refusal touches nothing.
-pub fn write(id: u8, sent: u32, queue: &[u8], word: &mut [u8], progress: &mut [u8]) -> u8
-    ensures { Is (written id sent queue.now word.old progress.old) result (word.new, progress.new) × (id < 256) }
+// much of the queue is done with. A refusal touches nothing.
+pub fn write(
+    id: u8,
+    sent: u32,
+    queue: &[u8],
+    word: &mut [u8],
+    progress: &mut [u8],
+) -> Result<(), Refusal>
+    ensures { Is (written id sent queue.now word.old progress.old) (status result) (word.new, progress.new) × (id < 256) }
 {
-    let front = ip_queue::look(queue, sent);
-    let n = refusal(front.refusal, word.len(), progress.len());
-    if 0 < n {
-        return n;
+    let address = ip_queue::look(queue, sent)?;
+    if word.len() != PAYLOAD_WORD || progress.len() != PROGRESS {
+        return Err(Refusal::LengthWrong);
     }
     let done = lay::fill(queue, sent, &mut word[..lay::PAYLOAD]);
-    close(word, id, front.address);
+    close(word, id, address);
     put_progress(progress, done);
-    0
+    Ok(())
 }

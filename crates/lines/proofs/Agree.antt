@@ -12,5 +12,5 @@ use Rattle.lines.proofs.lines.Reads as lines_reads
 
 module _ (κs : Lfts 2) (a : ArgsD lines.signature κs) where
   pub lines_agrees : (r r' : ResD lines.signature κs) (s s' : AtExit (ended_of 2 lines_kinds.ps lines_kinds.r) κs) →
-      lines_reads.Post κs a r s → lines_reads.Post κs a r' s' → (r ≡ r') × (s.1.1.1.1.0.now ≡ s'.1.1.1.1.0.now)
+      lines_reads.Post κs a r s → lines_reads.Post κs a r' s' → (r ≡ r') × (s.1.1.0.now ≡ s'.1.1.0.now)
   lines_agrees r r' s s' p q = agree p q

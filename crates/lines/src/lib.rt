@@ -7,12 +7,13 @@ ghost use Rattle.views.specs.View.{sheet_view, lists_at};
 ghost use Rattle.words.specs.Words.{put};
 ghost use Rattle.lines.specs.Lines.{accepted};
 
-use views::FORM1;
+use views::{Counts, FORM1};
 
-// All lines, of a sheet with p payload pipes, s streams and d sections.
-pub fn lines(sheet: &[u8], p: u8, s: u16, d: u16, out: &mut [u8]) -> usize
-    ensures { Is (put out.old 0 (accepted (lists_at (sheet_view form1 p s) p s d sheet.now))) result out.new }
+// All lines, of a sheet with these counts.
+pub fn lines(sheet: &[u8], counts: Counts, out: &mut [u8]) -> usize
+    ensures { Is (put out.old 0 (accepted (lists_at (sheet_view form1 counts.p counts.s) counts.p counts.s counts.d sheet.now))) result out.new }
 {
+    let Counts { p, s, d } = counts;
     let v = views::of_sheet(FORM1, p, s);
     let m = records::multiplex_at(sheet, v.multiplex);
     let to = words::line(

@@ -4,47 +4,44 @@ use Prim.Native.Nat.{ℕ, ◌+◌, ◌*◌, ◌≤◌, ◌<◌}
 use mathlib.Core.Path.{◌≡◌, refl, sym, ap, ◌∙◌, subst}
 use mathlib.Core.Logic.{inr}
 use mathlib.Core.List.{List}
-use native.Mathlib.Nat.{zero-add, add-zero}
+use native.Mathlib.Nat.{add-zero}
 use native.Mathlib.Decide.{dec_lt}
 use native.Mathlib.Omega.{arith}
-use lib.ListN.{length, get_or, set, replicate, get_or-eq_default}
+use lib.ListN.{length, get_or, set, replicate, length-set, length-replicate, get_or-replicate, get_or-eq_default}
+use lib.Seq.{get_or-set_other}
 use borrow.Author.Tests.{lt-ltb, le-ltb}
 use Rattle.ground.proofs.Choice.{choose_true, choose_false}
-use Rattle.ground.proofs.Table.{get_or_tab}
+use Rattle.ground.proofs.Fill.{fill_more}
 use Rattle.bits.specs.Places.{bit_at, number, packed}
 use Rattle.bits.proofs.Places.{bit_lt, number_cong, number_append, number_zeros, packed_ext, packed_cong}
 use Rattle.order.specs.Order.{order}
 use Rattle.order.specs.Once.{Permutes}
 use Rattle.order.proofs.Once.{order_permutes}
-use Rattle.pairs.proofs.Copying.{Copying, copying_none, copying_more}
 use Rattle.listed.specs.Listed.{listed_bit, listed}
-use Rattle.listed.specs.Inside.{Singles, Ready, read_bit}
+use Rattle.listed.specs.Inside.{Singles, read_bit}
 
 -- each address below 762 once
 once : Permutes 762 (order 762)
 once = order_permutes 762 (inr refl)
 
 -- ---- the bits that are read
-pub ready : (w d list : List ℕ) → Singles w d → list ≡ order 762 → Ready list d
-ready w d list s e = record {
-  whole = e;
-  len = s.len;
-  bits = λ a. elim (dec_lt a 768) [
-    | yes h ↦ subst (λ (z : ℕ). z < 2) (sym (s.bits a h)) (bit_lt w a)
-    | no h ↦ subst (λ (z : ℕ). z < 2) (sym (get_or-eq_default d 0 {n = a} (omega (arith, s.len)))) (omega arith)
-  ];
-}
+pub singles_small : (w d : List ℕ) → Singles w d → (a : ℕ) → get_or d a 0 < 2
+singles_small w d s a =
+    elim (dec_lt a 768) [
+      | yes h ↦ subst (λ (z : ℕ). z < 2) (sym (s.bits a h)) (bit_lt w a)
+      | no h ↦ subst (λ (z : ℕ). z < 2) (sym (get_or-eq_default d 0 {n = a} (omega (arith, s.len)))) (omega arith)
+    ]
 
-module _ (list d : List ℕ) (r : Ready list d) where
+module _ (list d : List ℕ) (whole : list ≡ order 762) where
   -- an address of the list
   pub address_lt : (p : ℕ) → p < 762 → get_or list p 0 < 762
-  address_lt p h = subst (λ (l : List ℕ). get_or l p 0 < 762) (sym r.whole) (once.below p h)
+  address_lt p h = subst (λ (l : List ℕ). get_or l p 0 < 762) (sym whole) (once.below p h)
 
   pub bit_read : (p : ℕ) → p < 762 → get_or d (get_or list p 0) 0 ≡ read_bit d p
   unfolding read_bit
   bit_read p h =
       let a : ℕ = get_or (order 762) p 0 in
-      ap (λ (l : List ℕ). get_or d (get_or l p 0) 0) r.whole ∙ sym (choose_true (get_or d a 0) 0 (lt-ltb p 762 h))
+      ap (λ (l : List ℕ). get_or d (get_or l p 0) 0) whole ∙ sym (choose_true (get_or d a 0) 0 (lt-ltb p 762 h))
 
 -- behind the block zeros are read
 zeros_read : (d : List ℕ) (p n : ℕ) → 762 ≤ p → number (read_bit d) p n ≡ 0
@@ -60,20 +57,20 @@ pub eight_is : (f : ℕ → ℕ) (p a b : ℕ) → a ≡ number f p 4 → b ≡ 
 eight_is f p a b e g = omega (arith, number_append f p 4 4)
 
 -- ---- i bytes of what is read stand, and zeros behind them
-abbrev pub Reading : List ℕ → List ℕ → ℕ → Type 0
-Reading d out i = Copying (packed (read_bit d) 1536) out i
-
-packed_byte : (f : ℕ → ℕ) (k : ℕ) → k < 1536 → get_or (packed f 1536) k 0 ≡ number f (8 * k) 8
-unfolding packed
-packed_byte f k h = get_or_tab (λ i. number f (8 * i) 8) 0 0 1536 k h ∙ ap (λ (i : ℕ). number f (8 * i) 8) (zero-add k)
+pub record Reading (d out : List ℕ) (i : ℕ) : Type 0 where
+  pub len : length out ≡ 1536
+  pub bytes : (k : ℕ) → k < i → get_or out k 0 ≡ number (read_bit d) (8 * k) 8
+  pub rest : (k : ℕ) → i ≤ k → k < 1536 → get_or out k 0 ≡ 0
 
 pub reading_none : (d : List ℕ) → Reading d (replicate 1536 0) 0
-reading_none d = copying_none (packed (read_bit d) 1536)
+reading_none d = record { len = length-replicate {A = ℕ} 1536 0; bytes = λ k h. absurd (omega arith); rest = λ k h l. get_or-replicate 1536 k 0 0 l }
 
 pub reading_more : (d out : List ℕ) (i v : ℕ) → Reading d out i → i < 1536 → v ≡ number (read_bit d) (8 * i) 8 → Reading d (set out i v) (i + 1)
-reading_more d out i v r h e =
-    let w : List ℕ = packed (read_bit d) 1536 in
-    subst (λ (x : ℕ). Copying w (set out i x) (i + 1)) (packed_byte (read_bit d) i h ∙ sym e) (copying_more w out i r h)
+reading_more d out i v r h e = record {
+  len = length-set out i v ∙ r.len;
+  bytes = fill_more (λ k. number (read_bit d) (8 * k) 8) 0 out i v (omega (arith, r.len)) e r.bytes;
+  rest = λ k m q. get_or-set_other out i k v 0 (omega arith) ∙ r.rest k (omega arith) q;
+}
 
 -- the last two bits
 pub last_two : (d : List ℕ) (a b : ℕ) → a ≡ read_bit d 760 → b ≡ read_bit d 761 → a * 128 + b * 64 ≡ number (read_bit d) 760 8
@@ -88,7 +85,7 @@ pub reading_all : (d out : List ℕ) → Reading d out 96 → out ≡ packed (re
 reading_all d out r =
     packed_ext (read_bit d) out 1536 r.len
     (λ k h. elim (dec_lt k 96) [
-      | yes q ↦ r.bytes k q ∙ packed_byte (read_bit d) k h
+      | yes q ↦ r.bytes k q
       | no q ↦ r.rest k (omega arith) h ∙ sym (zeros_read d (8 * k) 8 (omega arith))
     ])
 

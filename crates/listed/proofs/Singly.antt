@@ -3,24 +3,35 @@
 use Prim.Native.Nat.{ℕ, ◌+◌, ◌-◌, ◌*◌, ◌/◌, ◌%◌, ◌^◌, ◌≤◌, ◌<◌}
 use mathlib.Core.Path.{◌≡◌, sym, ap, ◌∙◌, subst}
 use mathlib.Core.Bool.{Bool}
-use mathlib.Core.List.{List}
-use native.Mathlib.Nat.{zero-add, zero-div}
+use mathlib.Core.List.{List, []}
+use native.Mathlib.Nat.{zero-div}
 use native.Mathlib.Decide.{dec_lt}
 use native.Mathlib.Omega.{arith}
 use lib.Dec.{T, eqb, eqb→eq}
 use lib.ListN.{length, get_or, replicate, length-replicate, get_or-replicate, get_or-eq_default}
 use Rattle.ground.specs.Choice.{both}
-use Rattle.ground.specs.Table.{tab, all_below}
+use Rattle.ground.specs.Table.{all_below}
 use Rattle.ground.proofs.Choice.{both_left, both_right}
-use Rattle.ground.proofs.Table.{get_or_tab, at_all}
+use Rattle.ground.proofs.Table.{at_all}
 use Rattle.bits.specs.Places.{bit_at}
 use Rattle.pairs.specs.Inside.{Stored}
 use Rattle.pairs.proofs.Spreading.{bit_of_byte}
 use Rattle.listed.specs.Inside.{four_bit, Singles}
 
 -- ---- the table of four bits
-four_at : (t : List ℕ) → t ≡ tab four_bit 0 64 → (i : ℕ) → i < 64 → get_or t i 0 ≡ four_bit i
-four_at t e i h = ap (λ (l : List ℕ). get_or l i 0) e ∙ get_or_tab four_bit 0 0 64 i h ∙ ap four_bit (zero-add i)
+-- a row has the bits of its number
+unfoldable pub row_holds : List (List ℕ) → ℕ → Bool
+row_holds t v = all_below (λ k. eqb (get_or (get_or t v []) k 0) (four_bit (4 * v + k))) 4
+
+abbrev pub rows_hold : List (List ℕ) → Bool
+rows_hold t = all_below (row_holds t) 16
+
+pub four_row : (t : List (List ℕ)) (p : List ℕ) (v : ℕ) → T (rows_hold t) → v < 16 → p ≡ get_or t v [] → (k : ℕ) → k < 4 → get_or p k 0 ≡ four_bit (4 * v + k)
+unfolding row_holds
+four_row t p v a h e k l =
+    let r : List ℕ = get_or t v [] in
+    ap (λ (x : List ℕ). get_or x k 0) e
+    ∙ eqb→eq (get_or r k 0) (four_bit (4 * v + k)) (at_all (λ i. eqb (get_or r i 0) (four_bit (4 * v + i))) 4 (at_all (row_holds t) 16 a v h) k l)
 
 -- a byte's upper four bits and its lower four are the byte's bits
 upper : ℕ → ℕ → Bool
@@ -40,17 +51,13 @@ halves_at : (b k : ℕ) → b < 256 → k < 4 → T (both (upper b k) (lower b k
 unfolding halves
 halves_at b k h l = at_all (λ i. both (upper b i) (lower b i)) 4 (at_all halves 256 all_halves b h) k l
 
-upper_bit : (t : List ℕ) → t ≡ tab four_bit 0 64 → (b k : ℕ) → b < 256 → k < 4 → get_or t (4 * (b / 16) + k) 0 ≡ b / 2 ^ (7 - k) % 2
+upper_bit : (b k : ℕ) → b < 256 → k < 4 → four_bit (4 * (b / 16) + k) ≡ b / 2 ^ (7 - k) % 2
 unfolding upper
-upper_bit t e b k h l =
-    four_at t e (4 * (b / 16) + k) (omega arith)
-    ∙ eqb→eq (four_bit (4 * (b / 16) + k)) (b / 2 ^ (7 - k) % 2) (both_left (upper b k) (lower b k) (halves_at b k h l))
+upper_bit b k h l = eqb→eq (four_bit (4 * (b / 16) + k)) (b / 2 ^ (7 - k) % 2) (both_left (upper b k) (lower b k) (halves_at b k h l))
 
-lower_bit : (t : List ℕ) → t ≡ tab four_bit 0 64 → (b k : ℕ) → b < 256 → k < 4 → get_or t (4 * (b % 16) + k) 0 ≡ b / 2 ^ (7 - (4 + k)) % 2
+lower_bit : (b k : ℕ) → b < 256 → k < 4 → four_bit (4 * (b % 16) + k) ≡ b / 2 ^ (7 - (4 + k)) % 2
 unfolding lower
-lower_bit t e b k h l =
-    four_at t e (4 * (b % 16) + k) (omega arith)
-    ∙ eqb→eq (four_bit (4 * (b % 16) + k)) (b / 2 ^ (7 - (4 + k)) % 2) (both_right (upper b k) (lower b k) (halves_at b k h l))
+lower_bit b k h l = eqb→eq (four_bit (4 * (b % 16) + k)) (b / 2 ^ (7 - (4 + k)) % 2) (both_right (upper b k) (lower b k) (halves_at b k h l))
 
 -- ---- the bits of i bytes of the word stand, and zeros behind them
 pub record Unpacking (w d : List ℕ) (i : ℕ) : Type 0 where
@@ -65,16 +72,18 @@ unpacking_none w = record { len = length-replicate {A = ℕ} 768 0; bits = λ a 
 at_place : (f : ℕ → ℕ) (g : ℕ → ℕ) (s a : ℕ) → s ≤ a → f (s + (a - s)) ≡ g (s + (a - s)) → f a ≡ g a
 at_place f g s a h e = let c : s + (a - s) ≡ a = omega arith in subst (λ (z : ℕ). f z ≡ g z) c e
 
-module _ (t : List ℕ) (e : t ≡ tab four_bit 0 64) (w d d' d'' : List ℕ) (i : ℕ) (p : Unpacking w d i) (small : get_or w i 0 < 256)
-    (u : Stored d (8 * i) (λ k. get_or t (4 * (get_or w i 0 / 16) + k) 0) d' 4)
-    (l : Stored d' (8 * i + 4) (λ k. get_or t (4 * (get_or w i 0 % 16) + k) 0) d'' 4) where
+module _ (w d d' d'' : List ℕ) (i x : ℕ) (p : Unpacking w d i) (e : x ≡ get_or w i 0) (small : x < 256) (u : Stored d (8 * i) (λ k. four_bit (4 * (x / 16) + k)) d' 4)
+    (l : Stored d' (8 * i + 4) (λ k. four_bit (4 * (x % 16) + k)) d'' 4) where
+  bit_is : (k : ℕ) → k < 8 → x / 2 ^ (7 - k) % 2 ≡ bit_at w (8 * i + k)
+  bit_is k h = ap (λ (y : ℕ). y / 2 ^ (7 - k) % 2) e ∙ sym (bit_of_byte w i k h)
+
   upper_four : (k : ℕ) → k < 4 → get_or d'' (8 * i + k) 0 ≡ bit_at w (8 * i + k)
-  upper_four k h = l.before (8 * i + k) (omega arith) ∙ u.here k h ∙ upper_bit t e (get_or w i 0) k small h ∙ sym (bit_of_byte w i k (omega arith))
+  upper_four k h = l.before (8 * i + k) (omega arith) ∙ u.here k h ∙ upper_bit x k small h ∙ bit_is k (omega arith)
 
   lower_four : (k : ℕ) → k < 4 → get_or d'' (8 * i + 4 + k) 0 ≡ bit_at w (8 * i + 4 + k)
   lower_four k h =
       let c : 8 * i + (4 + k) ≡ 8 * i + 4 + k = omega arith in
-      l.here k h ∙ lower_bit t e (get_or w i 0) k small h ∙ sym (bit_of_byte w i (4 + k) (omega arith)) ∙ ap (bit_at w) c
+      l.here k h ∙ lower_bit x k small h ∙ bit_is (4 + k) (omega arith) ∙ ap (bit_at w) c
 
   pub unpacking_more : Unpacking w d'' (i + 1)
   unpacking_more = record {

@@ -14,12 +14,6 @@ pub record Singles (w d : List ℕ) : Type 0 where
   pub len : length d ≡ 768
   pub bits : (a : ℕ) → a < 768 → get_or d a 0 ≡ bit_at w a
 
--- what reading by the list asks
-pub record Ready (list d : List ℕ) : Type 0 where
-  pub whole : list ≡ order 762
-  pub len : length d ≡ 768
-  pub bits : (a : ℕ) → get_or d a 0 < 2
-
 -- the bit that is read at the period p, and zeros behind the block
 unfoldable pub read_bit : List ℕ → ℕ → ℕ
 read_bit d p = choose (ltb p 762) (get_or d (get_or (order 762) p 0) 0) 0

@@ -1,34 +1,43 @@
 // The bits that encoder 2 reads, by the addresses of the list, eight to a byte.
-ghost use Rattle.std.specs.Prelude.{◌≡◌, ◌+◌, ◌<◌, ◌≤◌, replicate};
+ghost use Rattle.std.specs.Prelude.{◌≡◌, ℕ, ◌+◌, ◌<◌, ◌≤◌, get_or};
 ghost use Rattle.bits.specs.Places.{number, packed};
-ghost use Rattle.listed.specs.Inside.{read_bit, Ready};
+ghost use Rattle.order.specs.Order.{order};
+ghost use Rattle.listed.specs.Inside.{read_bit};
 
-// The bit that is read at the period p.
-fn bit(list: &[u16; 762], d: &[u8], p: usize) -> u8
-    requires { Ready list.now d.now × (p < 762) }
-    ensures { (result ≡ read_bit d.now p) × (result < 2) }
-{
-    d[list[p] as usize]
+// A block's bits, a byte to a bit, and the addresses by which they are read.
+#[derive(Drop)]
+pub struct Block<'a> {
+    pub list: &'a [u16; 762],
+    pub bits: &'a [u8; 768],
+    ghost whole: { list.now ≡ order 762 },
+    ghost single: { (a : ℕ) → get_or bits.now a 0 < 2 },
 }
 
-// Four bits, from the period p on.
-fn four(list: &[u16; 762], d: &[u8], p: usize) -> u8
-    requires { Ready list.now d.now × (p + 4 ≤ 762) }
-    ensures { (result ≡ number (read_bit d.now) p 4) × (result < 16) }
-{
-    ((bit(list, d, p) * 2 + bit(list, d, p + 1)) * 2 + bit(list, d, p + 2)) * 2
-        + bit(list, d, p + 3)
-}
-
-// All bits, packed: 95 bytes, and the two bits behind them.
-pub fn pack(list: &[u16; 762], d: &[u8], out: &mut [u8])
-    requires { Ready list.now d.now × (out.old ≡ replicate 1536 0) }
-    ensures { out.new ≡ packed (read_bit d.now) 1536 }
-{
-    let mut i: usize = 0;
-    while i < 95 {
-        out[i] = four(list, d, 8 * i) * 16 + four(list, d, 8 * i + 4);
-        i += 1;
+impl Block<'_> {
+    // The bit that is read at the period p.
+    fn bit(&self, p: usize) -> u8
+        requires { p < 762 }
+        ensures { (result ≡ read_bit self.now.bits.now p) × (result < 2) }
+    {
+        self.bits[usize::from(self.list[p])]
     }
-    out[95] = bit(list, d, 760) * 128 + bit(list, d, 761) * 64;
+
+    // Four bits, from the period p on.
+    fn four(&self, p: usize) -> u8
+        requires { p + 4 ≤ 762 }
+        ensures { (result ≡ number (read_bit self.now.bits.now) p 4) × (result < 16) }
+    {
+        ((self.bit(p) * 2 + self.bit(p + 1)) * 2 + self.bit(p + 2)) * 2 + self.bit(p + 3)
+    }
+
+    // All bits, packed: 95 bytes, and the two bits behind them.
+    pub fn pack(&self, out: &mut [u8; 1536])
+        ensures { out.new ≡ packed (read_bit self.now.bits.now) 1536 }
+    {
+        *out = [0u8; 1536];
+        for i in 0..95 {
+            out[i] = self.four(8 * i) * 16 + self.four(8 * i + 4);
+        }
+        out[95] = self.bit(760) * 128 + self.bit(761) * 64;
+    }
 }

@@ -8,18 +8,24 @@ ghost use Rattle.std.specs.Prelude.{◌≡◌};
 ghost use Rattle.order.specs.Order.{order};
 ghost use Rattle.listed.specs.Listed.{listed};
 
+use eight::Block;
+
 // What encoder 2 reads of a signalling word's block, packed, into lent bytes, and zeros behind it. Places past the end of the word read 0.
 pub fn read_into(word: &[u8], out: &mut [u8; 1536])
     ensures { out.new ≡ listed (order 762) word.now }
 {
     let list = addresses::signalling();
-    let mut d = [0u8; 768];
-    single::unpack(word, &mut d);
-    *out = [0u8; 1536];
-    eight::pack(&list, &d, out);
+    let mut bits = [0u8; 768];
+    single::unpack(word, &mut bits);
+    let block = Block {
+        list: &list,
+        bits: &bits,
+    };
+    block.pack(out);
 }
 
 // What encoder 2 reads of a signalling word's block, packed, and zeros behind it. Places past the end of the word read 0.
+// It stands beside `read_into` since its promise does.
 pub fn read(word: &[u8]) -> [u8; 1536]
     ensures { result ≡ listed (order 762) word.now }
 {

@@ -5,7 +5,7 @@ ghost use Rattle.std.specs.Prelude.{◌≤◌, length, IfOk};
 
 use std::io;
 use std::io::{Read, Write};
-use text::Listing;
+use text::Unlisted;
 
 // Reads until the room is full or the input ends, and says how many bytes stand in it then.
 fn read_full<R: Read>(input: &mut R, room: &mut [u8]) -> io::Result<usize>
@@ -29,9 +29,9 @@ fn main(rt: HostRuntime) -> io::Result<()> {
     let n = read_full(&mut rt.stdin(), &mut sheet)?;
     let mut out = [0u8; 1024];
     let answer = text::list(&sheet[..n], &mut out);
-    let Listing::Text(length) = answer else {
+    let Ok(length) = answer else {
         // A refused sheet: the text is the refusal number alone.
-        if let Listing::Refused { number: _, n } = answer {
+        if let Err(Unlisted::Refused { refusal: _, n }) = answer {
             rt.stdout().write_all(&out[..n])?;
         }
         return Ok(());

@@ -1,20 +1,21 @@
 -- What the mixer's entry gives: its refusals, and the mixed codeword.
 -- Assumes nothing.
-use Prim.Native.Nat.{ℕ, ◌/◌, ◌≤◌, ◌<◌}
+use Prim.Native.Nat.{ℕ, ◌*◌, ◌/◌, ◌≤◌, ◌<◌}
 use mathlib.Core.Path.{◌≡◌, refl, sym, ap, ap₂, ◌∙◌, subst}
-use mathlib.Core.Bool.{Bool, true, false, not}
+use mathlib.Core.Bool.{Bool, true, false}
 use mathlib.Core.Logic.{⊎_elim, inl}
 use mathlib.Core.List.{List}
 use native.Mathlib.Omega.{arith}
-use borrow.Author.Tests.{ltb-false, eqb-true, eq-eqb, ne_eqb, lt-ltb, le-ltb}
+use borrow.Author.Rules.{rules}
+use borrow.Author.Tests.{ltb-false, eqb-true, eq-eqb}
 use lib.Dec.{T, eqb, ltb, leb, ltb→lt, leb→le}
 use lib.ListN.{length}
 use Rattle.ground.specs.Outcome.{Is}
 use Rattle.ground.specs.Choice.{choose, both, first_of}
 use Rattle.ground.specs.Table.{all_below}
-use Rattle.ground.proofs.Choice.{choose_true, choose_false, both_left, both_right, past, no_difference}
+use Rattle.ground.proofs.Choice.{choose_true, both_left, both_right, past, no_difference}
 use Rattle.ground.proofs.Table.{at_all}
-use Rattle.ground.proofs.Refusing.{refusal_leaves, acceptance_leaves}
+use Rattle.ground.proofs.Refusing.{acceptance_leaves}
 use Rattle.bits.specs.Places.{bit_at, packed}
 use Rattle.patterns.specs.Rates.{rates, rate_of}
 use Rattle.patterns.specs.Sent.{code_length}
@@ -22,41 +23,19 @@ use Rattle.patterns.specs.Blocks.{Coded, block_by, block_faults}
 use Rattle.patterns.proofs.Length.{length_rule}
 use Rattle.patterns.proofs.Blocks.{fit_coded, coded_fit}
 use Rattle.mixer.specs.Mixer.{increment, mixed_from, mixed}
-use Rattle.mixer.specs.Inside.{Mixable}
+use Rattle.mixer.specs.Inside.{Round}
 use Rattle.mixer.specs.Mixing.{codeword_bytes, block_of, mix_faults, mixing}
 
-module _ (p : ℕ) (c out : List ℕ) where
-  none_27 : 27 < p → first_of (mix_faults p c out) ≡ 3
-  unfolding mix_faults
-  none_27 h = choose_true _ _ (lt-ltb 27 p h)
+-- nothing is refused
+clear : (p : ℕ) (c out : List ℕ) → p ≤ 27 → first_of (block_faults p (block_of p c)) ≡ 0 → length out ≡ length c → first_of (mix_faults p c out) ≡ 0
+unfolding mix_faults
+clear p c out h n o = search rules
 
-  after_3 : p ≤ 27 → first_of (mix_faults p c out) ≡ choose (not (eqb (first_of (block_faults p (block_of p c))) 0)) 21 (choose (not (eqb (length out) (length c))) 21 0)
-  unfolding mix_faults
-  after_3 h = choose_false _ _ (le-ltb 27 p h)
+-- ---- what the functions of patterns answered: the block that the codeword's length tells
 
-  unfit_21 : p ≤ 27 → (first_of (block_faults p (block_of p c)) ≡ 0 → ⊥) → first_of (mix_faults p c out) ≡ 21
-  unfit_21 h n = after_3 h ∙ ap (λ (t : Bool). choose (not t) 21 (choose (not (eqb (length out) (length c))) 21 0)) (ne_eqb (first_of (block_faults p (block_of p c))) 0 n)
-
-  after_21 : p ≤ 27 → first_of (block_faults p (block_of p c)) ≡ 0 → first_of (mix_faults p c out) ≡ choose (not (eqb (length out) (length c))) 21 0
-  after_21 h n = after_3 h ∙ ap (λ (t : Bool). choose (not t) 21 (choose (not (eqb (length out) (length c))) 21 0)) (eq-eqb (first_of (block_faults p (block_of p c))) 0 n)
-
-  room_21 : p ≤ 27 → first_of (block_faults p (block_of p c)) ≡ 0 → (length out ≡ length c → ⊥) → first_of (mix_faults p c out) ≡ 21
-  room_21 h n o = after_21 h n ∙ ap (λ (t : Bool). choose {A = ℕ} (not t) 21 0) (ne_eqb (length out) (length c) o)
-
-  clear : p ≤ 27 → first_of (block_faults p (block_of p c)) ≡ 0 → length out ≡ length c → first_of (mix_faults p c out) ≡ 0
-  clear h n o = after_21 h n ∙ ap (λ (t : Bool). choose {A = ℕ} (not t) 21 0) (eq-eqb (length out) (length c) o)
-
-  pub mix_unknown : 27 < p → Is (mixing p c out) 3 out
-  unfolding mixing
-  mix_unknown h = refusal_leaves (first_of (mix_faults p c out)) (mixed p (block_of p c) c) out (sym (none_27 h)) (λ z. omega arith)
-
-  pub mix_unfit : p ≤ 27 → (first_of (block_faults p (block_of p c)) ≡ 0 → ⊥) → Is (mixing p c out) 21 out
-  unfolding mixing
-  mix_unfit h n = refusal_leaves (first_of (mix_faults p c out)) (mixed p (block_of p c) c) out (sym (unfit_21 h n)) (λ z. omega arith)
-
-  pub mix_room : p ≤ 27 → first_of (block_faults p (block_of p c)) ≡ 0 → (length out ≡ length c → ⊥) → Is (mixing p c out) 21 out
-  unfolding mixing
-  mix_room h n o = refusal_leaves (first_of (mix_faults p c out)) (mixed p (block_of p c) c) out (sym (room_21 h n o)) (λ z. omega arith)
+module _ (p : ℕ) (c : List ℕ) {l n : ℕ} (length_is : l ≡ code_length p 12282) (by : n ≡ block_by (l / 8) 480 (length c)) where
+  pub block_told : n ≡ block_of p c
+  block_told = by ∙ ap (λ (x : ℕ). block_by (x / 8) 480 (length c)) length_is
 
 -- ---- what is accepted
 
@@ -105,20 +84,20 @@ module _ (p : ℕ) (c out : List ℕ) (k : p ≤ 27) (n : first_of (block_faults
   unfolding block_by
   codeword_length = length_by p (length c) (eqb (length c) (codeword_bytes p)) (eqb (length c) 480) refl refl coded
 
-  pub mix_able : (inc : ℕ) → inc < 256 → Mixable inc (code_length p (block_of p c)) c out
+  len_is : 8 * length c ≡ code_length p (block_of p c)
+  len_is = omega (arith, codeword_length, (length_rule p (block_of p c) coded).bytes)
+
+  pub mix_able : (inc : ℕ) → inc < 256 → Round inc c
   mix_able inc s =
       let b = bounds p (block_of p c) coded in
-      let e : length c ≡ code_length p (block_of p c) / 8 = codeword_length in
-      record {
-        round = record { some = omega (arith, b.0); within = omega (arith, b.0); most = b.1; whole = omega (arith, (length_rule p (block_of p c) coded).bytes) };
-        room = o;
-      }
+      record { some = omega (arith, b.0, len_is); within = omega (arith, b.0, len_is); most = omega (arith, b.1, len_is) }
 
-  pub mix_done : (inc : ℕ) (m : List ℕ) → inc ≡ increment p (block_of p c) → m ≡ packed (λ i. bit_at c (mixed_from inc (code_length p (block_of p c)) i)) (length out) → Is (mixing p c out) 0 m
+  pub mix_done : (inc : ℕ) (m : List ℕ) → inc ≡ increment p (block_of p c) → m ≡ packed (λ i. bit_at c (mixed_from inc (8 * length c) i)) (length out) → Is (mixing p c out) 0 m
   unfolding mixing mixed
   mix_done inc m e h =
       acceptance_leaves (first_of (mix_faults p c out)) (mixed p (block_of p c) c) out (clear p c out k n o)
-      (h ∙ ap₂ (λ (x y : ℕ). packed (λ i. bit_at c (mixed_from x (code_length p (block_of p c)) i)) y) e (o ∙ codeword_length))
+      (h ∙ ap₂ (λ (x y : ℕ). packed (λ i. bit_at c (mixed_from inc x i)) y) len_is (o ∙ codeword_length)
+      ∙ ap (λ (x : ℕ). packed (λ i. bit_at c (mixed_from x (code_length p (block_of p c)) i)) (code_length p (block_of p c) / 8)) e)
 
 -- ---- a payload codeword of its length, into as much room
 
@@ -129,6 +108,10 @@ module _ (p : ℕ) (c out : List ℕ) (h : p < 28) (e : length c ≡ codeword_by
 
   fits : first_of (block_faults p (block_of p c)) ≡ 0
   fits = ap (λ (n : ℕ). first_of (block_faults p n)) block_is ∙ coded_fit p 12282 (inl (h, refl))
+
+  pub mix_accepts : (mixing p c out).answer ≡ 0
+  unfolding mixing
+  mix_accepts = clear p c out (omega arith) fits o
 
   pub mix_is : (mixing p c out).memory ≡ mixed p 12282 c
   unfolding mixing

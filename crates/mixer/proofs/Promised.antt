@@ -5,6 +5,7 @@ use contract.Lifetimes.{Lfts}
 use borrow.Fn.World.{ArgsD, ResD}
 use borrow.Fn.Kinds.{ended_of}
 use denote.Triple.Clauses.{AtExit}
+use Rattle.ground.specs.Refusals.{status}
 use Rattle.mixer.specs.Wanted.{Moved}
 use Rattle.mixer.proofs.Unmixes.{call_moves}
 use Rattle.mixer.specs.contracts.mix as mix
@@ -13,5 +14,5 @@ use Rattle.mixer.proofs.mix.Reads as mix_reads
 
 -- after a call mix(pattern, codeword, out) that answered 0 each bit of the codeword stands at its place
 pub mix_moves : (κs : Lfts 2) (a : ArgsD mix.signature κs) (r : ResD mix.signature κs) (s : AtExit (ended_of 2 mix_kinds.ps mix_kinds.r) κs)
-    → mix_reads.Post κs a r s → r ≡ 0 → Moved a.0 a.1.0.now s.1.1.0.now
-mix_moves κs a r s p z = call_moves a.0 a.1.0.now a.1.1.0.now s.1.1.0.now r p z
+    → mix_reads.Post κs a r s → status r ≡ 0 → Moved a.0 a.1.0.now s.1.1.0.now
+mix_moves κs a r s p z = call_moves a.0 a.1.0.now a.1.1.0.now s.1.1.0.now (status r) p z

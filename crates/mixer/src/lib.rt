@@ -3,12 +3,14 @@
 
 ghost use Rattle.std.specs.Prelude.{◌≡◌, ◌+◌, ◌*◌, ◌/◌, ◌%◌, ◌<◌, ◌≤◌, length};
 ghost use Rattle.ground.specs.Outcome.{Is};
+ghost use Rattle.ground.specs.Refusals.{status};
 ghost use Rattle.bits.specs.Places.{bit_at, number, packed};
 ghost use Rattle.mixer.specs.Mixer.{increment, mixed_from};
 ghost use Rattle.mixer.specs.Mixing.{mixing};
-ghost use Rattle.mixer.specs.Inside.{Round, Mixable};
+ghost use Rattle.mixer.specs.Inside.{Round};
 
-use ground::{FRAME_WRONG, PATTERN_ABOVE_27, PAYLOAD_BLOCK, SIGNALLING_BLOCK};
+use ground::refusal::Refusal;
+use ground::{PAYLOAD_BLOCK, SIGNALLING_BLOCK};
 
 // The bytes of the signalling codeword (clause 4.4.8).
 const SIGNALLING_CODEWORD: usize = 480;
@@ -28,9 +30,10 @@ fn increment(pattern: usize, n: usize) -> u8
     ensures { (result ≡ increment pattern n) × (result < 256) }
 {
     if n == SIGNALLING_BLOCK {
-        return SIGNALLING_INCREMENT;
+        SIGNALLING_INCREMENT
+    } else {
+        INCREMENTS[pattern]
     }
-    INCREMENTS[pattern]
 }
 
 // A step on from a place of a codeword of len bits, round its end.
@@ -43,60 +46,49 @@ fn onward(at: usize, step: usize, len: usize) -> usize
 }
 
 // The eight bits that stand inc apart from a place on, round the end of the codeword.
-fn mixed_byte(codeword: &[u8], inc: usize, len: usize, at: usize) -> u8
-    requires { Round inc len codeword.now × (at < len) }
-    ensures { result ≡ number (λ i. bit_at codeword.now ((at + inc * i) % len)) 0 8 }
+fn mixed_byte(codeword: &[u8], inc: usize, at: usize) -> u8
+    requires { Round inc codeword.now × (at < 8 * length codeword.now) }
+    ensures { result ≡ number (λ i. bit_at codeword.now ((at + inc * i) % (8 * length codeword.now))) 0 8 }
 {
-    let mut v: u8 = 0;
+    let len = 8 * codeword.len();
+    let mut v = 0;
     let mut from = at;
-    let mut i: usize = 0;
-    while i < 8 {
+    for _ in 0..8usize {
         v = v * 2 + (codeword[from / 8] >> (7 - from % 8)) % 2;
         from = onward(from, inc, len);
-        i += 1;
     }
     v
 }
 
-// Each bit of a codeword of len bits goes to its place. The places are added up, so that no bit costs a product or a remainder.
-fn mix_bits(codeword: &[u8], inc: usize, len: usize, out: &mut [u8])
-    requires { Mixable inc len codeword.now out.old }
-    ensures { out.new ≡ packed (λ i. bit_at codeword.now (mixed_from inc len i)) (length out.old) }
+// Each bit of a codeword goes to its place. The places are added up, so that no bit costs a product or a remainder.
+fn mix_bits(codeword: &[u8], inc: usize, out: &mut [u8])
+    requires { Round inc codeword.now }
+    ensures { out.new ≡ packed (λ i. bit_at codeword.now (mixed_from inc (8 * length codeword.now) i)) (length out.old) }
 {
-    let step = 8 * inc;
+    let len = 8 * codeword.len();
     let mut at = 0;
-    let mut k = 0;
-    while k < out.len() {
-        out[k] = mixed_byte(codeword, inc, len, at);
-        at = onward(at, step, len);
-        k += 1;
+    for byte in out.iter_mut() {
+        *byte = mixed_byte(codeword, inc, at);
+        at = onward(at, 8 * inc, len);
     }
 }
 
-// Mixes a codeword into the lent buffer and returns 0; or returns why not, and leaves the buffer as it was.
-pub fn mix(pattern: u32, codeword: &[u8], out: &mut [u8]) -> u8
-    ensures { Is (mixing pattern codeword.now out.old) result out.new }
+// Mixes a codeword into the lent buffer; or says why not, and leaves the buffer as it was.
+pub fn mix(pattern: u32, codeword: &[u8], out: &mut [u8]) -> Result<(), Refusal>
+    ensures { Is (mixing pattern codeword.now out.old) (status result) out.new }
 {
     let p = pattern as usize;
     if 27 < p {
-        return PATTERN_ABOVE_27;
+        return Err(Refusal::PatternAbove27);
     }
     let n = patterns::block_by(
         patterns::code_length(p, PAYLOAD_BLOCK) / 8,
         SIGNALLING_CODEWORD,
         codeword.len(),
     );
-    if patterns::unfit(p, n) != 0 {
-        return FRAME_WRONG;
+    if patterns::unfit(p, n).is_err() || out.len() != codeword.len() {
+        return Err(Refusal::FrameWrong);
     }
-    if out.len() != codeword.len() {
-        return FRAME_WRONG;
-    }
-    mix_bits(
-        codeword,
-        increment(p, n) as usize,
-        patterns::code_length(p, n),
-        out,
-    );
-    0
+    mix_bits(codeword, usize::from(increment(p, n)), out);
+    Ok(())
 }

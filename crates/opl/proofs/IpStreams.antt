@@ -3,7 +3,6 @@
 use Prim.Native.Nat.{ℕ}
 use mathlib.Core.Path.{◌≡◌, sym, ap, ◌∙◌, subst}
 use mathlib.Core.List.{List}
-use native.Mathlib.Omega.{arith}
 use contract.Lifetimes.{Lfts}
 use borrow.Fn.World.{ArgsD, ResD}
 use borrow.Fn.Kinds.{ended_of}
@@ -14,6 +13,7 @@ use Rattle.fields.specs.Report.{header_of}
 use Rattle.fields.proofs.Faults.{Readable, read_0}
 use Rattle.header_bytes.specs.Bytes.{header_bytes}
 use Rattle.both_ways.specs.Damage.{OneBit}
+use Rattle.ground.specs.declared.refusal.Refusal.TheVariants.{CrcWrong}
 use Rattle.payload.proofs.Answers.{into_refused, into_done}
 use Rattle.opl.specs.contracts.opl_payload_read as opl_payload_read
 use Rattle.opl.proofs.opl_payload_read.Kinds as opl_payload_read_kinds
@@ -120,4 +120,4 @@ module _ (c : WriteCall) (w : Writes c) (z : c.answer ≡ 0) where
   pub opl_ip_header_damaged : (κs : Lfts 2) (b : ArgsD opl_payload_read.signature κs) (n : ResD opl_payload_read.signature κs)
       (t : AtExit (ended_of 2 opl_payload_read_kinds.ps opl_payload_read_kinds.r) κs) (i : ℕ)
       → OneBit c.left_word b.0.now i → length b.1.0.now ≡ 16 → opl_payload_read_reads.Post κs b n t → (n ≡ 5) × (t.1.0.now ≡ b.1.0.now)
-  opl_ip_header_damaged κs b n t i d l p = agree p (into_refused b.0.now b.1.0.now l 5 (written_damaged c (kept.wrote c w) z b.0.now i d) (omega arith))
+  opl_ip_header_damaged κs b n t i d l p = agree p (into_refused b.0.now b.1.0.now l CrcWrong (written_damaged c (kept.wrote c w) z b.0.now i d))

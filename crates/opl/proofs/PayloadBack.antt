@@ -5,7 +5,6 @@ use mathlib.Core.Bool.{not}
 use mathlib.Core.Path.{◌≡◌, subst}
 use mathlib.Core.Logic.{◌↔◌}
 use mathlib.Core.List.{List, [], ◌∷◌}
-use native.Mathlib.Omega.{arith}
 use contract.Lifetimes.{Lfts}
 use borrow.Fn.World.{ArgsD, ResD}
 use borrow.Fn.Kinds.{ended_of}
@@ -25,6 +24,7 @@ use Rattle.encapsulation.proofs.Plain.{types_0_and_1}
 use Rattle.header_bytes.specs.Bytes.{header_bytes}
 use Rattle.payload.specs.Answers.{written_header}
 use Rattle.both_ways.specs.Damage.{OneBit, OddIn, PartSeenIn}
+use Rattle.ground.specs.declared.refusal.Refusal.TheVariants.{CrcWrong}
 use Rattle.payload.proofs.Answers.{into_refused}
 use Rattle.both_ways.proofs.Types.{written_damaged}
 use Rattle.both_ways.proofs.WaysBack.{header_after, packet_after}
@@ -57,9 +57,8 @@ module _ (κs : Lfts 3) (a : ArgsD opl_payload_write.signature κs) (r : ResD op
       (t : AtExit (ended_of 2 opl_payload_read_kinds.ps opl_payload_read_kinds.r) κt) (i : ℕ)
       → OneBit left b.0.now i → (a.0 ≡ 1 → kind_of b.0.now ≡ 3 → ⊥) → length b.1.0.now ≡ 16 → opl_payload_read_reads.Post κt b n t → (n ≡ 5) × (t.1.0.now ≡ b.1.0.now)
   opl_refused_where_sent_damaged κt b n t i d m l p =
-      agree p (into_refused b.0.now b.1.0.now l 5
-      (written_damaged a.0 a.1.0 a.1.1.0 a.1.1.1.0.now a.1.1.1.1.0.now a.1.1.1.1.1.0.now r left did.0 zero did.1 b.0.now i d m)
-      (omega arith))
+      agree p (into_refused b.0.now b.1.0.now l CrcWrong
+      (written_damaged a.0 a.1.0 a.1.1.0 a.1.1.1.0.now a.1.1.1.1.0.now a.1.1.1.1.1.0.now r left did.0 zero did.1 b.0.now i d m))
 
   -- and the word begins with the payload, for type 2 with the null packets behind it
   pub opl_payload_kept : take (packet_bytes a.0) left ≡ packet_of a.0 a.1.1.0 a.1.1.1.0.now a.1.1.1.1.0.now

@@ -1,7 +1,6 @@
 -- Sums of words, and a word of zeros, of the exported functions' own promises: the encoder's, and those of the writer and the reader of payload words.
 -- Assumes nothing.
 use mathlib.Core.Path.{◌≡◌, sym, ap, ◌∙◌}
-use native.Mathlib.Omega.{arith}
 use contract.Lifetimes.{Lfts}
 use borrow.Fn.World.{ArgsD, ResD}
 use borrow.Fn.Kinds.{ended_of}
@@ -11,6 +10,7 @@ use Rattle.ground.proofs.Outcome.{agree}
 use lib.Bits.{bit_xor}
 use Rattle.bits.specs.Sums.{summed}
 use Rattle.fields.specs.Report.{read_refusal}
+use Rattle.ground.specs.declared.refusal.Refusal.TheVariants.{CrcWrong}
 use Rattle.payload.proofs.Answers.{into_refused}
 use Rattle.sums.specs.Calls.{Call, SumAnswered, SumSent, ZerosSent}
 use Rattle.sums.proofs.Calls.{sum_answered, sum_sent, zeros_sent}
@@ -55,8 +55,7 @@ pub opl_read_refuses_sum : (κs : Lfts 3) (a : ArgsD opl_payload_write.signature
     → (bit_xor a.0 b.0 ≡ 3 → ⊥) → c.0.now ≡ summed s.1.1.1.1.1.0.now t.1.1.1.1.1.0.now → length c.1.0.now ≡ 16 → opl_payload_read_reads.Post κu c n u
     → (n ≡ 5) × (u.1.0.now ≡ c.1.0.now)
 opl_read_refuses_sum κs a r s κt b q t κu c n u did zr did' zq m e l p =
-    agree p (into_refused c.0.now c.1.0.now l 5
+    agree p (into_refused c.0.now c.1.0.now l CrcWrong
     (written_sum_refused a.0 a.1.0 a.1.1.0 a.1.1.1.0.now a.1.1.1.1.0.now a.1.1.1.1.1.0.now r s.1.1.1.1.1.0.now did.0 zr did.1
     b.0 b.1.0 b.1.1.0 b.1.1.1.0.now b.1.1.1.1.0.now b.1.1.1.1.1.0.now q t.1.1.1.1.1.0.now did'.0 zq did'.1 m
-    ∙ sym (ap read_refusal e))
-    (omega arith))
+    ∙ sym (ap read_refusal e)))

@@ -1,47 +1,33 @@
 -- Laws of the block that is copied of a word, and of what is unpacked of it.
 -- Assumes nothing.
-use Prim.Native.Nat.{ℕ, ◌+◌, ◌-◌, ◌*◌, ◌/◌, ◌%◌, ◌^◌, ◌≤◌, ◌<◌}
-use mathlib.Core.Path.{◌≡◌, sym, ap, ap₂, ◌∙◌, subst}
-use mathlib.Core.List.{List}
+use Prim.Native.Nat.{ℕ, ◌+◌, ◌-◌, ◌*◌, ◌/◌, ◌%◌, ◌^◌, ◌≤◌, ◌<◌, min}
+use mathlib.Core.Path.{◌≡◌, sym, ap, ap₂, ◌∙◌}
+use mathlib.Core.List.{List, ◌++◌}
 use native.Mathlib.Nat.{mod-lt, div-lt_iff_lt-mul, mul-le-mul_right}
-use native.Mathlib.Decide.{dec_lt, ℕ_discrete}
+use native.Mathlib.Decide.{dec_lt}
 use native.Mathlib.Omega.{arith}
-use lib.ListN.{length, get_or, set, replicate, length-set, length-replicate, get_or-replicate, get_or-eq_default}
-use lib.Seq.{get_or-set_same, get_or-set_other}
+use lib.ListN.{length, get_or, take, drop, replicate, length-append, length-drop, length-replicate, get_or-append, get_or-replicate, get_or-eq_default}
 use borrow.Author.Tests.{eq-eqb, ne_eqb}
+use Rattle.std.proofs.lemmas.List.{get_or-append_right, get_or-take, get_or-drop, length-take-le}
 use Rattle.ground.proofs.Choice.{choose_true, choose_false}
 use Rattle.ground.proofs.Table.{tab_cong}
 use Rattle.bits.specs.Places.{bit_at}
 use Rattle.pairs.specs.Pairs.{couple, fellow, pairs_of, unpacked}
 use Rattle.pairs.specs.Inside.{Copied}
 
--- ---- i bytes of the word are copied, and the rest is zero
-pub record Copying (w l : List ℕ) (i : ℕ) : Type 0 where
-  pub len : length l ≡ 1536
-  pub bytes : (k : ℕ) → k < i → get_or l k 0 ≡ get_or w k 0
-  pub rest : (k : ℕ) → i ≤ k → k < 1536 → get_or l k 0 ≡ 0
-
-pub copying_none : (w : List ℕ) → Copying w (replicate 1536 0) 0
-copying_none w = record { len = length-replicate {A = ℕ} 1536 0; bytes = λ k h. absurd (omega arith); rest = λ k h l. get_or-replicate 1536 k 0 0 l }
-
-pub copying_more : (w l : List ℕ) (i : ℕ) → Copying w l i → i < 1536 → Copying w (set l i (get_or w i 0)) (i + 1)
-copying_more w l i c h = record {
-  len = length-set l i (get_or w i 0) ∙ c.len;
-  bytes = λ k m. elim (ℕ_discrete k i) [
-    | yes e ↦ subst (λ (z : ℕ). get_or (set l i (get_or w i 0)) z 0 ≡ get_or w z 0) (sym e) (get_or-set_same l i (get_or w i 0) 0 (omega (arith, c.len)))
-    | no e ↦ get_or-set_other l i k (get_or w i 0) 0 (omega arith) ∙ c.bytes k (omega arith)
-  ];
-  rest = λ k m q. get_or-set_other l i k (get_or w i 0) 0 (omega arith) ∙ c.rest k (omega arith) q;
-}
-
-pub copying_all : (w l : List ℕ) (i : ℕ) → Copying w l i → (i < 1536 → length w ≤ i) → Copied w l
-copying_all w l i c h = record {
-  len = c.len;
-  bytes = λ k m. elim (dec_lt k i) [
-    | yes q ↦ c.bytes k q
-    | no q ↦ c.rest k (omega arith) m ∙ sym (get_or-eq_default w 0 {n = k} (omega (arith, h (omega arith))))
-  ];
-}
+-- the word's front, and zeros behind it
+pub copied : (w p : List ℕ) (n : ℕ) → n ≡ min (length w) 1536 → p ≡ take n w → Copied w (p ++ drop n (replicate 1536 0))
+copied w p n e q =
+    let z : List ℕ = replicate 1536 0 in
+    let l : length p ≡ n = ap length q ∙ length-take-le n w (omega arith) in
+    record {
+      len = length-append p (drop n z) ∙ omega (arith, l, length-drop n z, length-replicate {A = ℕ} 1536 0);
+      bytes = λ k h. elim (dec_lt k n) [
+        | yes m ↦ get_or-append p (drop n z) 0 k (omega (arith, l)) ∙ ap (λ (x : List ℕ). get_or x k 0) q ∙ get_or-take n w k 0 m
+        | no m ↦ get_or-append_right p (drop n z) n k 0 l (omega arith) ∙ get_or-drop n z (k - n) 0 ∙ get_or-replicate 1536 (n + (k - n)) 0 0 (omega arith)
+            ∙ sym (get_or-eq_default w 0 {n = k} (omega arith))
+      ];
+    }
 
 -- ---- the block's bits are the word's
 bit_copied : (w l : List ℕ) → Copied w l → (a : ℕ) → a < 12288 → bit_at l a ≡ bit_at w a

@@ -1,7 +1,7 @@
 -- Laws of the bits in pairs: a segment's bytes with their fellows, and all segments.
 -- Assumes nothing.
 use Prim.Native.Nat.{ℕ, ◌+◌, ◌-◌, ◌*◌, ◌/◌, ◌%◌, ◌^◌, ◌≤◌, ◌<◌}
-use mathlib.Core.Path.{◌≡◌, refl, sym, ap, ap₂, ◌∙◌, subst}
+use mathlib.Core.Path.{◌≡◌, sym, ap, ap₂, ◌∙◌, subst}
 use mathlib.Core.List.{List}
 use native.Mathlib.Nat.{zero-add, mod-lt, mod-eq_of_lt, div-eq_of_lt, add-mul-div_right, add-mul-mod_self_right, add-mod_right, div-add-mod', div-lt_iff_lt-mul, mul-le-mul_right}
 use native.Mathlib.Decide.{dec_lt}
@@ -13,9 +13,6 @@ use Rattle.bits.proofs.Places.{bit_lt}
 use Rattle.pairs.specs.Pairs.{couple, fellow, pairs_of, Paired}
 use Rattle.pairs.specs.Inside.{spread, Stored, Coupled}
 use Rattle.pairs.proofs.Spreading.{spread_digit, bit_of_byte}
-
-pub coupled_none : (w : List ℕ) (from half : ℕ) (d : List ℕ) → Coupled w from half d d 0
-coupled_none w from half d = record { len = refl; first = λ k h. absurd (omega arith); second = λ k h. absurd (omega arith); before = λ k h. refl }
 
 -- eight bytes of two spread bytes are the pairs of their bits
 pairs_stored : (w : List ℕ) (i j x : ℕ) (l l' : List ℕ) → x ≡ spread (get_or w i 0) + 64 * spread (get_or w j 0)
@@ -54,9 +51,6 @@ pub record Segments (w : List ℕ) (half : ℕ) (d₀ d : List ℕ) (s : ℕ) : 
   pub len : length d ≡ length d₀
   pub first : (r k : ℕ) → r < s → k < 8 * half → get_or d (r * (16 * half) + k) 0 ≡ couple w (r * (16 * half) + k) (r * (16 * half) + 8 * half + k)
   pub second : (r k : ℕ) → r < s → k < 8 * half → get_or d (r * (16 * half) + 8 * half + k) 0 ≡ couple w (r * (16 * half) + 8 * half + k) (r * (16 * half) + k)
-
-pub segments_none : (w : List ℕ) (half : ℕ) (d : List ℕ) → Segments w half d d 0
-segments_none w half d = record { len = refl; first = λ r k h. absurd (omega arith); second = λ r k h. absurd (omega arith) }
 
 pub segments_more : (w : List ℕ) (half : ℕ) (d₀ d d' : List ℕ) (s : ℕ) → Segments w half d₀ d s → Coupled w (s * (half * 2)) half d d' half → Segments w half d₀ d' (s + 1)
 segments_more w half d₀ d d' s h c =

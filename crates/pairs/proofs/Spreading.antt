@@ -4,12 +4,14 @@ use Prim.Native.Nat.{ℕ, zero, suc, ◌+◌, ◌-◌, ◌*◌, ◌/◌, ◌%◌
 use mathlib.Core.Path.{◌≡◌, refl, sym, ap, ap₂, ◌∙◌, subst}
 use mathlib.Core.Bool.{Bool}
 use mathlib.Core.List.{List}
-use native.Mathlib.Nat.{add-zero, add-suc, not-suc-le-zero, pow-succ', div-one, div-div-eq-div-mul}
-use native.Mathlib.Decide.{ℕ_discrete}
+use native.Mathlib.Nat.{add-zero, add-suc, zero-add, pow-succ', div-one, div-div-eq-div-mul}
 use native.Mathlib.Omega.{arith}
+use borrow.Author.Rules.{rules}
+use borrow.Rule.Slice.PartMut.{put_mid}
+use Rattle.std.proofs.lemmas.List.{length-take-le, places}
+use Rattle.std.specs.Int.{bytes_low_first}
 use lib.Dec.{T, leb, eqb, leb→le, eqb→eq}
-use lib.ListN.{length, get_or, set, replicate, length-set}
-use lib.Seq.{get_or-set_same, get_or-set_other}
+use lib.ListN.{length, get_or, take, drop, set, replicate, length-set, length-drop}
 use Rattle.ground.specs.Choice.{both}
 use Rattle.ground.specs.Table.{all_below}
 use Rattle.ground.proofs.Choice.{both_left, both_right}
@@ -113,17 +115,24 @@ filled_more t y f some h =
     subst (Filled (set (set t (2 * y) v) (2 * y + 1) (v + 72057594037927936))) n
     (filled_next (set t (2 * y) v) (2 * y + 1) (v + 72057594037927936) first (omega arith) (ap (λ (x : ℕ). x + 72057594037927936) e ∙ sym (spread_odd y h)))
 
--- ---- eight bytes
-pub stored_none : (l : List ℕ) (at : ℕ) (f : ℕ → ℕ) → Stored l at f l 0
-stored_none l at f = record { len = refl; here = λ k h. absurd (not-suc-le-zero h); before = λ k h. refl; behind = λ k h. refl }
+-- ---- n bytes copied over a part
+pub stored_part : (l p : List ℕ) (at n size : ℕ) (f : ℕ → ℕ) → at + n ≤ length l → size ≡ n → length p ≡ length (take size (drop at l)) → ((k : ℕ) → k < n → get_or p k 0 ≡ f k)
+    → Stored l at f (put_mid at size l p) n
+stored_part l p at n size f room same e bytes =
+    let len : length p ≡ n = e ∙ length-take-le size (drop at l) (omega (arith, length-drop at l)) ∙ same in
+    record {
+      len = search (rules, places);
+      here = λ k h. search (rules, places);
+      before = λ k h. search (rules, places);
+      behind = λ k h. search (rules, places);
+    }
 
-pub stored_more : (l : List ℕ) (at : ℕ) (f : ℕ → ℕ) (l' : List ℕ) (n x : ℕ) → Stored l at f l' n → at + n < length l → x ≡ f n → Stored l at f (set l' (at + n) x) (n + 1)
-stored_more l at f l' n x h room e = record {
-  len = length-set l' (at + n) x ∙ h.len;
-  here = λ k lk. elim (ℕ_discrete k n) [
-    | yes q ↦ subst (λ (z : ℕ). get_or (set l' (at + n) x) (at + z) 0 ≡ f z) (sym q) (get_or-set_same l' (at + n) x 0 (omega (arith, h.len)) ∙ e)
-    | no q ↦ get_or-set_other l' (at + n) (at + k) x 0 (omega arith) ∙ h.here k (omega arith)
-  ];
-  before = λ k lk. get_or-set_other l' (at + n) k x 0 (omega arith) ∙ h.before k lk;
-  behind = λ k lk. get_or-set_other l' (at + n) k x 0 (omega arith) ∙ h.behind k (omega arith);
-}
+-- the bytes of a number, the lowest first
+byte_from : (i n x k : ℕ) → k < n → get_or (bytes_low_first i n x) k 0 ≡ x / 256 ^ (i + k) % 256
+byte_from i zero x k h = absurd (omega arith)
+byte_from zero (suc n) x zero h = ap (λ (y : ℕ). y % 256) (sym (div-one x))
+byte_from (suc i) (suc n) x zero h = rw add-zero refl
+byte_from i (suc n) x (suc k) h = byte_from (suc i) n x k (omega arith) ∙ ap (λ (j : ℕ). x / 256 ^ j % 256) (omega arith)
+
+pub byte_of : (n x k : ℕ) → k < n → get_or (bytes_low_first 0 n x) k 0 ≡ x / 256 ^ k % 256
+byte_of n x k h = byte_from 0 n x k h ∙ ap (λ (j : ℕ). x / 256 ^ j % 256) (zero-add k)

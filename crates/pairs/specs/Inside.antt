@@ -18,10 +18,6 @@ spelt f (suc n) = spelt f n * 256 + f n
 unfoldable pub spread : ℕ → ℕ
 spread b = spelt (λ k. b / 2 ^ k % 2) 8
 
--- a table of all bytes so spread
-pub record Spreads (t : List ℕ) : Type 0 where
-  pub entry : (b : ℕ) → b < 256 → get_or t b 0 ≡ spread b
-
 -- n bytes f 0, f 1, .. stand from a place on, and the others are as they were
 pub record Stored (l : List ℕ) (at : ℕ) (f : ℕ → ℕ) (l' : List ℕ) (n : ℕ) : Type 0 where
   pub len : length l' ≡ length l

@@ -25,7 +25,7 @@ fn put49(out: &mut [u8], s: Wide, v: u64) -> Wide
 
 // Four of them, and 28 zeros, into 28 bytes.
 fn put(out: &mut [u8], v: &[u64; 4])
-    requires { (length out.old ≡ 28) × (length v.now ≡ 4) × Below (2 ^ 49) v.now }
+    requires { (length out.old ≡ 28) × Below (2 ^ 49) v.now }
     ensures { out.new ≡ pack 28 (fields49 v.now ++ bits 28 0) }
 {
     let mut s = Wide {
@@ -33,10 +33,8 @@ fn put(out: &mut [u8], v: &[u64; 4])
         used: 0,
         at: 0,
     };
-    let mut k = 0;
-    while k < 4 {
-        s = put49(out, s, v[k]);
-        k += 1;
+    for part in v {
+        s = put49(out, s, *part);
     }
     wide::put(out, s, 0, 28);
 }

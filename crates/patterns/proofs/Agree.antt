@@ -6,6 +6,7 @@ use borrow.Fn.World.{ArgsD, ResD}
 use borrow.Fn.Kinds.{ended_of}
 use denote.Triple.Clauses.{AtExit}
 use Rattle.ground.proofs.Outcome.{same}
+use Rattle.ground.proofs.Refusals.{status_same}
 use Rattle.patterns.specs.contracts.units as units
 use Rattle.patterns.proofs.units.Kinds as units_kinds
 use Rattle.patterns.proofs.units.Reads as units_reads
@@ -32,7 +33,7 @@ module _ (κs : Lfts 0) (a : ArgsD code_length.signature κs) where
 module _ (κs : Lfts 0) (a : ArgsD unfit.signature κs) where
   pub unfit_agrees : (r r' : ResD unfit.signature κs) (s s' : AtExit (ended_of 0 unfit_kinds.ps unfit_kinds.r) κs) →
       unfit_reads.Post κs a r s → unfit_reads.Post κs a r' s' → r ≡ r'
-  unfit_agrees r r' s s' p q = same p q
+  unfit_agrees r r' s s' p q = status_same r r' (same p q)
 
 module _ (κs : Lfts 0) (a : ArgsD block_by.signature κs) where
   pub block_by_agrees : (r r' : ResD block_by.signature κs) (s s' : AtExit (ended_of 0 block_by_kinds.ps block_by_kinds.r) κs) →

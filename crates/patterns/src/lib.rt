@@ -3,11 +3,13 @@
 
 ghost use Rattle.std.specs.Prelude.{◌≡◌, ltb};
 ghost use Rattle.ground.specs.Choice.{choose, first_of};
+ghost use Rattle.ground.specs.Refusals.{status};
 ghost use Rattle.patterns.specs.Rates.{units_of};
 ghost use Rattle.patterns.specs.Blocks.{block_by, unpaired, block_faults};
 ghost use Rattle.patterns.specs.Sent.{code_length};
 
-use ground::{LENGTH_WRONG, PATTERN_ABOVE_27, PATTERN_NOT_0, PAYLOAD_BLOCK, SIGNALLING_BLOCK};
+use ground::refusal::Refusal;
+use ground::{PAYLOAD_BLOCK, SIGNALLING_BLOCK};
 
 // 6 divided by the rate, by pattern number (table 13, CU_Per_CW).
 const UNITS: [u8; 28] = [
@@ -19,10 +21,7 @@ const UNITS: [u8; 28] = [
 pub fn units(pattern: usize) -> u8
     ensures { result ≡ units_of pattern }
 {
-    if 27 < pattern {
-        return 0;
-    }
-    UNITS[pattern]
+    UNITS.get(pattern).copied().unwrap_or(0)
 }
 
 // The length in bits of the codeword of a block of n bits; 0 for a number that names no pattern, and for a block that is longer than the payload's.
@@ -30,9 +29,10 @@ pub fn code_length(pattern: usize, n: usize) -> usize
     ensures { result ≡ choose (ltb 12282 n) 0 (code_length pattern n) }
 {
     if n <= PAYLOAD_BLOCK {
-        return (n + 6) * units(pattern) as usize / 6;
+        (n + 6) * units(pattern) as usize / 6
+    } else {
+        0
     }
-    0
 }
 
 // The bits of the block that a length tells, 0 where there is no such block.
@@ -52,27 +52,21 @@ pub fn block_by(payload: usize, signalling: usize, len: usize) -> usize
 fn unpaired(pattern: usize, n: usize) -> bool
     ensures { result ≡ unpaired pattern n }
 {
-    if n == SIGNALLING_BLOCK {
-        0 < pattern
-    } else {
-        false
-    }
+    n == SIGNALLING_BLOCK && 0 < pattern
 }
 
-// Why a block of n bits is not coded under a pattern: 1 where there is no block, 3 for a number above 27, 4 for the block of 762 bits with a pattern other than 0; 0 if it is.
-pub fn unfit(pattern: usize, n: usize) -> u8
-    ensures { result ≡ first_of (block_faults pattern n) }
+// Whether a block of n bits is coded under a pattern, or why not: 1 where there is no block, 3 for a number above 27, 4 for the block of 762 bits with a pattern other than 0.
+pub fn unfit(pattern: usize, n: usize) -> Result<(), Refusal>
+    ensures { status result ≡ first_of (block_faults pattern n) }
 {
-    let unknown = 27 < pattern;
-    let other = unpaired(pattern, n);
     if n == 0 {
-        return LENGTH_WRONG;
+        return Err(Refusal::LengthWrong);
     }
-    if unknown {
-        return PATTERN_ABOVE_27;
+    if 27 < pattern {
+        return Err(Refusal::PatternAbove27);
     }
-    if other {
-        return PATTERN_NOT_0;
+    if unpaired(pattern, n) {
+        return Err(Refusal::PatternNot0);
     }
-    0
+    Ok(())
 }

@@ -5,7 +5,8 @@ use contract.Lifetimes.{Lfts}
 use borrow.Fn.World.{ArgsD, ResD}
 use borrow.Fn.Kinds.{ended_of}
 use denote.Triple.Clauses.{AtExit}
-use Rattle.ground.proofs.Outcome.{same, agree}
+use Rattle.ground.proofs.Outcome.{same}
+use Rattle.ground.proofs.Refusals.{agree_status}
 use Rattle.payload.proofs.Answers.{told_inj}
 use Rattle.payload.specs.contracts.read as read
 use Rattle.payload.proofs.read.Kinds as read_kinds
@@ -30,4 +31,4 @@ module _ (κs : Lfts 1) (a : ArgsD payload_of.signature κs) where
 module _ (κs : Lfts 2) (a : ArgsD read_into.signature κs) where
   pub read_into_agrees : (r r' : ResD read_into.signature κs) (s s' : AtExit (ended_of 2 read_into_kinds.ps read_into_kinds.r) κs) →
       read_into_reads.Post κs a r s → read_into_reads.Post κs a r' s' → (r ≡ r') × (s.1.0.now ≡ s'.1.0.now)
-  read_into_agrees r r' s s' p q = agree p q
+  read_into_agrees r r' s s' p q = agree_status p q

@@ -1,6 +1,6 @@
 -- What the reader of a payload word answers, with the documents' refusals in their order.
 -- Assumes nothing.
-use Rattle.std.specs.Prelude.{ℕ, not, List, [], ◌∷◌, eqb, length, take}
+use Rattle.std.specs.Prelude.{ℕ, not, List, [], ◌∷◌, eqb, length, take, Result, Ok, Err}
 use Rattle.ground.specs.Outcome.{Outcome, Told}
 use Rattle.ground.specs.Choice.{choose, refuse, first_of, refusing}
 use Rattle.infoword.specs.Suffix.{kind_of}
@@ -8,8 +8,8 @@ use Rattle.infoword.specs.Word.{packet_bytes}
 use Rattle.fields.specs.Report.{read_faults, read_refusal, header_of}
 use Rattle.fields.specs.declared.Header.{Header}
 use Rattle.header_bytes.specs.Bytes.{header_bytes}
-use Rattle.payload.specs.declared.Reading.{Reading}
-use Rattle.payload.specs.declared.Reading.TheVariants.{Accepted, Refused}
+use Rattle.ground.specs.declared.refusal.Refusal.{Refusal}
+use Rattle.ground.specs.Refusals.{number}
 
 -- what is reported of a word of type 0, 1 or 2 that was written with a stream id: of type 2 all four parts hold
 abbrev pub written_header : ℕ → ℕ → Header
@@ -20,9 +20,9 @@ abbrev pub values_of : Header → List ℕ
 values_of h = h.rfu ∷ h.id ∷ h.kind ∷ h.version ∷ h.parity ∷ h.address ∷ []
 
 -- the reader's answer in document 01's terms: the number, 0 for a word that is accepted, and what is reported of such a word
-abbrev pub told : Reading → Told
-told (Accepted h) = record { number = 0; values = values_of h }
-told (Refused n) = record { number = n; values = [] }
+abbrev pub told : Result Header Refusal → Told
+told (Ok h) = record { number = 0; values = values_of h }
+told (Err e) = record { number = number e; values = [] }
 
 -- what is told of a word
 unfoldable pub reading : List ℕ → Told

@@ -3,31 +3,21 @@
 
 ghost use Rattle.std.specs.Prelude.{◌≡◌};
 ghost use Rattle.ground.specs.Outcome.{Is};
+ghost use Rattle.ground.specs.Refusals.{status};
 ghost use Rattle.bits.specs.Lists.{Below};
 ghost use Rattle.payload.specs.Answers.{told, reading, shown, read_into};
 
 use fields::Header;
-use ground::LENGTH_WRONG;
+use ground::refusal::Refusal;
 use header_bytes::HEADER;
 use infoword::STREAM_TYPE;
 
-// What reading a word gives: this, or the number of its refusal.
-#[derive(Clone, Copy)]
-pub enum Reading {
-    Accepted(Header),
-    Refused(u8),
-}
-
-// Reads the header of a payload word.
-pub fn read(word: &[u8]) -> Reading
+// Reads the header of a payload word, or says why the word is refused.
+pub fn read(word: &[u8]) -> Result<Header, Refusal>
     ensures { (told result ≡ reading word.now) × Below 256 word.now }
 {
-    let n = fields::refusal(word);
-    if 0 < n {
-        return Reading::Refused(n);
-    }
-    let h = header::header_of(word);
-    Reading::Accepted(h)
+    fields::refusal(word)?;
+    Ok(header::header_of(word))
 }
 
 // The payload of a word that is accepted, a part of the word itself and as it was received: 1,532 bytes for stream type 1, 1,504 for types
@@ -35,27 +25,23 @@ pub fn read(word: &[u8]) -> Reading
 pub fn payload_of(word: &[u8]) -> &[u8]
     ensures { result.now ≡ shown word.now }
 {
-    let refusal = fields::refusal(word);
-    if 0 < refusal {
-        return &word[..0];
+    match fields::refusal(word) {
+        Ok(()) => {
+            let n = infoword::bytes(bits::field(word, STREAM_TYPE, 3));
+            &word[..n]
+        }
+        Err(_) => &word[..0],
     }
-    let n = infoword::bytes(bits::field(word, STREAM_TYPE, 3));
-    &word[..n]
 }
 
-// Reads the header of a payload word into 16 bytes and returns 0; a refusal touches nothing.
-pub fn read_into(word: &[u8], header: &mut [u8]) -> u8
-    ensures { Is (read_into word.now header.old) result header.new }
+// Reads the header of a payload word into 16 bytes; a refusal touches nothing.
+pub fn read_into(word: &[u8], header: &mut [u8]) -> Result<(), Refusal>
+    ensures { Is (read_into word.now header.old) (status result) header.new }
 {
     if header.len() != HEADER {
-        return LENGTH_WRONG;
+        return Err(Refusal::LengthWrong);
     }
-    let h = read(word);
-    match h {
-        Reading::Refused(n) => n,
-        Reading::Accepted(h) => {
-            header_bytes::put_header(header, h, 0);
-            0
-        }
-    }
+    let h = read(word)?;
+    header_bytes::put_header(header, h, 0);
+    Ok(())
 }

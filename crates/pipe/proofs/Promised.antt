@@ -7,6 +7,7 @@ use contract.Lifetimes.{Lfts}
 use borrow.Fn.World.{ArgsD, ResD}
 use borrow.Fn.Kinds.{ended_of}
 use denote.Triple.Clauses.{AtExit}
+use Rattle.ground.specs.Refusals.{status}
 use Rattle.pipe.specs.Calls.{PipeCall, FramesRight, CodewordsBack, MemoryMost}
 use Rattle.pipe.proofs.Run.{a_call, Done, frames_right, codewords_back, memory_at_most}
 use Rattle.pipe.specs.contracts.write as write
@@ -20,7 +21,7 @@ pub record Writes (c : PipeCall) : Type 1 where
   pub result : ResD write.signature κs
   pub exit : AtExit (ended_of 4 write_kinds.ps write_kinds.r) κs
   pub kept : write_reads.Post κs args result exit
-  pub is : c ≡ a_call args.0.now args.1.0 args.1.1.0.now args.1.1.1.0.now args.1.1.1.1.0.now result exit.1.1.1.0.now exit.1.1.1.1.0.now
+  pub is : c ≡ a_call args.0.now args.1.0 args.1.1.0.now args.1.1.1.0.now args.1.1.1.1.0.now (status result) exit.1.1.1.0.now exit.1.1.1.1.0.now
 
 done : (c : PipeCall) → Writes c → Done c
 done c w = subst Done (sym w.is) (record { is = w.kept.0; bytes = w.kept.1 })

@@ -7,6 +7,7 @@ use mathlib.Core.List.{List}
 use native.Mathlib.Nat.{mod-lt, suc-mul, mul-le-mul, mul-le-mul_right, mul_assoc, div-add-mod', div-le_self}
 use native.Mathlib.Decide.{dec_lt}
 use native.Mathlib.Omega.{arith}
+use borrow.Author.Rules.{rules}
 use borrow.Author.Tests.{eqb-true, ltb-false}
 use lib.Dec.{T, eqb, ltb, leb, leb→le}
 use lib.ListN.{length}
@@ -32,9 +33,8 @@ use Rattle.slots.specs.Ring.{depth, taken, byte_from, dispersing, step}
 use Rattle.disperser.proofs.Dispersing.{read_out}
 use Rattle.mixer.specs.Mixing.{codeword_bytes}
 use Rattle.pipe_look.specs.Faults.{frame_faults}
-use Rattle.profile.specs.declared.Profiled.{Profiled}
 use Rattle.profile.specs.Profile.{profile_of}
-use Rattle.profile.specs.Lent.{lent_fields, lent_sections, profile_fault, no_profile, profiled}
+use Rattle.profile.specs.Lent.{Profiled, lent_fields, lent_sections, profile_fault, no_profile, profiled}
 use Rattle.profile.proofs.Giving.{record_row, lent_at_most}
 use Rattle.pipe.specs.Frame.{way_of, mixed_frame}
 use Rattle.pipe.specs.Piping.{lent_way, lent_pattern, pipe_faults, piping}
@@ -88,6 +88,10 @@ module _ (l : List ℕ) (p : lent_pattern l ≤ 27) (whole : pipe_width (lent_fi
 
 -- ---- the refusals
 
+-- what is told of a pipe that has a profile
+abbrev pub given_profile : Profile → Profiled
+given_profile p = record { refusal = 0; profile = p }
+
 module _ (l codewords memory out : List ℕ) where
   abbrev given : ℕ → ℕ → ℕ
   given refusal greatest = first_of (frame_faults refusal greatest (lent_pattern l) (pipe_width (lent_fields l)) (length codewords) (length memory) (length out))
@@ -114,24 +118,25 @@ module _ (l codewords memory out : List ℕ) where
       ∙ by_width (ltb-false 27 (lent_pattern l) e) (eqb (pipe_width (lent_fields l) % units_of (lent_pattern l)) 0) refl
       ∙ sym (choose_false _ _ f ∙ choose_false _ _ e)
 
-  same_greatest : given 0 (profile_of (lent_fields l) (lent_sections l)).greatest ≡ given 0 greatest
-  unfolding way_of
-  same_greatest = refl
+  -- the profile's refusal is the first that is looked for
+  pub profile_refused : {n : ℕ} → record { refusal = n; profile = no_profile } ≡ profiled l → (n ≡ 0 → ⊥) → n ≡ first_of (pipe_faults l codewords memory out)
+  unfolding profiled pipe_faults
+  profile_refused e n = search rules
 
-  by_profile : (t : Bool) → profile_fault l ≡ t → (r : Profiled) → r ≡ profiled l → given r.refusal r.profile.greatest ≡ first_of (pipe_faults l codewords memory out)
-  unfolding profiled pipe_faults frame_faults
-  by_profile true e r g =
-      let n : r ≡ record { refusal = 20; profile = no_profile } = g ∙ choose_true _ _ e in
-      ap (λ (x : Profiled). given x.refusal x.profile.greatest) n ∙ sym (choose_true _ _ e)
-  by_profile false e r g =
-      let n : r ≡ record { refusal = 0; profile = profile_of (lent_fields l) (lent_sections l) } = g ∙ choose_false _ _ e in
-      ap (λ (x : Profiled). given x.refusal x.profile.greatest) n ∙ same_greatest ∙ by_pattern (ltb 27 (lent_pattern l)) refl e
+  -- and where there is none the others are those that are found by the numbers of the profile and the record
+  module _ {p : Profile} {q : Pipe} (told : given_profile p ≡ profiled l) (read : q ≡ pipe_at l 0 0) where
+    sound : profile_fault l ≡ false
+    unfolding profiled
+    sound = search rules
 
-  pub faults_are : (r : Profiled) (q : Pipe) → r ≡ profiled l → q ≡ pipe_at l 0 0
-      → first_of (frame_faults r.refusal r.profile.greatest q.pattern q.width (length codewords) (length memory) (length out)) ≡ first_of (pipe_faults l codewords memory out)
-  faults_are r q e g =
-      ap₂ (λ (x y : ℕ). first_of (frame_faults r.refusal r.profile.greatest x y (length codewords) (length memory) (length out))) (pattern_is l q g) (width_is l q g)
-      ∙ by_profile (profile_fault l) refl r e
+    pub profile_is : p ≡ (lent_way l).profile
+    unfolding profiled way_of
+    profile_is = ap (λ (x : Profiled). x.profile) (told ∙ choose_false _ _ sound)
+
+    pub faults_are : first_of (frame_faults 0 p.greatest q.pattern q.width (length codewords) (length memory) (length out)) ≡ first_of (pipe_faults l codewords memory out)
+    faults_are =
+        ap₂ (λ (x y : ℕ). first_of (frame_faults 0 p.greatest x y (length codewords) (length memory) (length out))) (pattern_is l q read) (width_is l q read)
+        ∙ ap (λ (x : Profile). given 0 x.greatest) profile_is ∙ by_pattern (ltb 27 (lent_pattern l)) refl sound
 
 -- ---- what an accepted call says
 
@@ -202,37 +207,30 @@ module _ (l : List ℕ) (f : ℕ) (codewords memory out : List ℕ) (h : Fits l 
       omega (arith, h.ring)
 
   -- as the code has it
-  module _ (r : Profiled) (q : Pipe) (e : r ≡ profiled l) (g : q ≡ pipe_at l 0 0) (units : ℕ) (u : units ≡ units_of q.pattern) where
-    pub units_are : units ≡ units_of (lent_pattern l)
+  module _ {p : Profile} {q : Pipe} (e : given_profile p ≡ profiled l) (g : q ≡ pipe_at l 0 0) {units : ℕ} (u : units ≡ units_of q.pattern) where
+    units_are : units ≡ units_of (lent_pattern l)
     units_are = u ∙ ap units_of (pattern_is l q g)
 
-    pub units_more : 0 < units
+    units_more : 0 < units
     units_more = subst (λ (n : ℕ). 0 < n) (sym units_are) (units_some (lent_pattern l) known)
 
     slots_are : q.width / units ≡ (lent_way l).slots
     unfolding way_of
     slots_are = ap₂ (λ (a b : ℕ). a / b) (width_is l q g) units_are
 
-    pub slots_few : q.width / units < 1024
+    slots_few : q.width / units < 1024
     slots_few =
         let d : q.width / units ≤ q.width = div-le_self q.width units in
         omega (arith, width_is l q g, width_small l)
 
-    profile_is : r.profile ≡ (lent_way l).profile
-    unfolding profiled way_of
-    profile_is = ap (λ (x : Profiled). x.profile) (e ∙ choose_false _ _ h.profile)
-
     bytes_are : q.width * 256 ≡ frame_bytes (lent_way l)
     bytes_are = ap (λ (x : ℕ). x * 256) (width_is l q g) ∙ sym (frame_is l h.pattern h.whole)
 
-    at_is : f % (r.profile.greatest + 1) * (q.width * 256) ≡ f % depth (lent_way l) * frame_bytes (lent_way l)
-    at_is = ap₂ (λ (a : Profile) (b : ℕ). f % (a.greatest + 1) * b) profile_is bytes_are
+    at_is : f % (p.greatest + 1) * (q.width * 256) ≡ f % depth (lent_way l) * frame_bytes (lent_way l)
+    at_is = ap₂ (λ (a : Profile) (b : ℕ). f % (a.greatest + 1) * b) (profile_is l codewords memory out e g) bytes_are
 
-    pub row_most : f % (r.profile.greatest + 1) * (q.width * 256) ≤ 1613491968
-    row_most = omega (arith, row_room, at_is, memory_most)
-
-    pub takes : Takes q.pattern (q.width / units) codewords memory (f % (r.profile.greatest + 1) * (q.width * 256))
-    takes =
+    takes_as : Takes q.pattern (q.width / units) codewords memory (f % (p.greatest + 1) * (q.width * 256))
+    takes_as =
         let s : frame_bytes (lent_way l) ≡ q.width / units * codeword_bytes q.pattern =
         size_is ∙ ap₂ (λ (a b : ℕ). a * codeword_bytes b) (sym slots_are) (sym (pattern_is l q g)) in
         record {
@@ -242,12 +240,12 @@ module _ (l : List ℕ) (f : ℕ) (codewords memory out : List ℕ) (h : Fits l 
           room = omega (arith, row_room, at_is, s);
         }
 
-    pub way_is : (b : ℕ) → b ≡ field_at l 25 1 → way r.profile b (q.width / units) (4 * units) ≡ lent_way l
+    pub way_is : (b : ℕ) → b ≡ field_at l 25 1 → way p b (q.width / units) (4 * units) ≡ lent_way l
     unfolding way_of
-    way_is b k = λ i. way (profile_is i) ((k ∙ regrouping_is l) i) (slots_are i) (4 * units_are i)
+    way_is b k = λ i. way (profile_is l codewords memory out e g i) ((k ∙ regrouping_is l) i) (slots_are i) (4 * units_are i)
 
     pub ring_is : (now : List ℕ)
-        → now ≡ paste memory (f % (r.profile.greatest + 1) * (q.width * 256)) (mixed_frame q.pattern (q.width / units) codewords) (q.width / units * codeword_bytes q.pattern)
+        → now ≡ paste memory (f % (p.greatest + 1) * (q.width * 256)) (mixed_frame q.pattern (q.width / units) codewords) (q.width / units * codeword_bytes q.pattern)
         → now ≡ taken (lent_way l) f (mixed_frame (lent_pattern l) (lent_way l).slots codewords) memory
     unfolding taken
     ring_is now k =
@@ -269,6 +267,27 @@ module _ (l : List ℕ) (f : ℕ) (codewords memory out : List ℕ) (h : Fits l 
       let m : made ≡ tab (byte_from y f (taken y f frame memory)) 0 (frame_bytes y) =
       d ∙ ap (λ (v : Way). dispersing v f now out) w ∙ sym (read_out y f now out h.room n) ∙ ap (λ (v : List ℕ). tab (byte_from y f v) 0 (frame_bytes y)) e in
       acceptance_leaves (first_of (pipe_faults l codewords memory out)) ((step y f frame memory).memory, (step y f frame memory).answer) (memory, out) z (ap₂ (λ (a b : List ℕ). (a, b)) e m)
+
+-- what an accepted call goes by, as the code finds it
+pub record Found (l : List ℕ) (f : ℕ) (codewords memory out : List ℕ) (p : Profile) (q : Pipe) (units : ℕ) : Type 0 where
+  pub none : first_of (pipe_faults l codewords memory out) ≡ 0
+  pub fits : Fits l codewords memory out
+  pub some : 0 < units
+  pub few : q.width / units < 1024
+  pub takes : Takes q.pattern (q.width / units) codewords memory (f % (p.greatest + 1) * (q.width * 256))
+
+pub found : (l : List ℕ) (f : ℕ) (codewords memory out : List ℕ) {p : Profile} {q : Pipe} {units : ℕ} → given_profile p ≡ profiled l → q ≡ pipe_at l 0 0
+    → 0 ≡ first_of (frame_faults 0 p.greatest q.pattern q.width (length codewords) (length memory) (length out)) → units ≡ units_of q.pattern → Found l f codewords memory out p q units
+found l f codewords memory out told read none u =
+    let z = sym (none ∙ faults_are l codewords memory out told read) in
+    let h = accepted l codewords memory out z in
+    record {
+      none = z;
+      fits = h;
+      some = units_more l f codewords memory out h told read u;
+      few = slots_few l f codewords memory out h told read u;
+      takes = takes_as l f codewords memory out h told read u;
+    }
 
 -- a refused call
 pub refused : (l : List ℕ) (f : ℕ) (codewords memory out : List ℕ) (r : ℕ) → r ≡ first_of (pipe_faults l codewords memory out) → (r ≡ 0 → ⊥) → Is (piping l f codewords memory out) r (memory, out)

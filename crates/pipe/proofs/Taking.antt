@@ -5,18 +5,18 @@ use mathlib.Core.Path.{◌≡◌, refl, sym, ap, ap₂, ◌∙◌, subst}
 use mathlib.Core.Logic.{inl}
 use mathlib.Core.List.{List, ◌++◌, append_assoc}
 use borrow.Rule.Slice.PartMut.{put_mid, Post-is}
-use native.Mathlib.Nat.{suc-mul, zero-mul, mul-le-mul, mul-le-mul_right, add_assoc}
+use native.Mathlib.Nat.{suc-mul, mul-le-mul_right, add_assoc}
 use native.Mathlib.Numerals.{add-one}
 use native.Mathlib.Omega.{arith}
 use lib.ListN.{length, take, drop, length-drop}
-use lib.Seq.{paste, paste-zero, length-paste, length_paste_head, ext_get_or, get_or-take, get_or-drop, length-take-le, take_all, take-add}
+use lib.Seq.{paste, length-paste, length_paste_head, ext_get_or, get_or-take, get_or-drop, length-take-le, take_all, take-add}
 use Rattle.ground.specs.Outcome.{Is}
 use Rattle.ground.proofs.Copy.{paste_behind}
 use Rattle.slots.specs.Slots.{part, joined}
 use Rattle.slots.proofs.Units.{part_length, part_byte, part_joined, joined_length}
 use Rattle.mixer.specs.Mixer.{mixed}
 use Rattle.mixer.specs.Mixing.{codeword_bytes, mixing}
-use Rattle.mixer.proofs.Mixes.{mix_is, bounds}
+use Rattle.mixer.proofs.Mixes.{mix_accepts, mix_is, bounds}
 use Rattle.mixer.proofs.Unmixes.{mixed_length}
 use Rattle.pipe.specs.Frame.{mixed_frame}
 use Rattle.pipe.specs.Inside.{Takes}
@@ -65,14 +65,7 @@ module _ (p slots : ℕ) (codewords ring : List ℕ) (at : ℕ) (h : Takes p slo
   unfolding mixed_frame
   frame_length = joined_length (codeword_bytes p) (λ w. mixed p 12282 (part (codeword_bytes p) codewords w)) slots
 
-  -- no number on the way is too great
-  pub frame_small : slots * codeword_bytes p ≤ 7864320
-  frame_small =
-      let a : slots ≤ 1024 = omega (arith, h.few) in
-      let m : slots * codeword_bytes p ≤ 1024 * 7680 = mul-le-mul a (size_most p h.pattern) in
-      m
-
-  pub turn : (w : ℕ) → w < slots → w * codeword_bytes p + codeword_bytes p ≤ slots * codeword_bytes p
+  turn : (w : ℕ) → w < slots → w * codeword_bytes p + codeword_bytes p ≤ slots * codeword_bytes p
   turn w l =
       let m : suc w * size ≤ slots * size = mul-le-mul_right size l in
       let e : suc w * size ≡ w * size + size = suc-mul w size in
@@ -80,9 +73,6 @@ module _ (p slots : ℕ) (codewords ring : List ℕ) (at : ℕ) (h : Takes p slo
 
   upto : (w : ℕ) → w ≤ slots → w * codeword_bytes p ≤ slots * codeword_bytes p
   upto w l = mul-le-mul_right size l
-
-  pub taken_none : ring ≡ paste ring at (mixed_frame p slots codewords) (0 * codeword_bytes p)
-  taken_none = paste-zero ring at frame ∙ ap (λ (n : ℕ). paste ring at frame n) (sym (zero-mul size))
 
   pub taken_length : (w : ℕ) → w ≤ slots → length (paste ring at (mixed_frame p slots codewords) (w * codeword_bytes p)) ≡ length ring
   taken_length w l = length-paste ring at frame (w * size) (omega (arith, upto w l, h.room)) (omega (arith, upto w l, frame_length))
@@ -108,6 +98,12 @@ module _ (p slots : ℕ) (codewords ring : List ℕ) (at : ℕ) (h : Takes p slo
       let d : length (drop (at + w * size) now) ≡ length now - (at + w * size) = length-drop (at + w * size) now in
       length-take-le (at + w * size + size - (at + w * size)) (drop (at + w * size) now) (omega (arith, turn w l, h.room)) ∙ k
 
+  -- so that the mixer does not refuse
+  accepted : (w : ℕ) (now : List ℕ) → w < slots → now ≡ paste ring at (mixed_frame p slots codewords) (w * codeword_bytes p)
+      → (mixing p (take (w * codeword_bytes p + codeword_bytes p - w * codeword_bytes p) (drop (w * codeword_bytes p) codewords))
+      (take (at + w * codeword_bytes p + codeword_bytes p - (at + w * codeword_bytes p)) (drop (at + w * codeword_bytes p) now))).answer ≡ 0
+  accepted w now l e = mix_accepts p _ _ h.pattern (codeword_length w l) (room_length w now l e ∙ sym (codeword_length w l))
+
   pub taken_turn : (w : ℕ) (now y : List ℕ) (r : ℕ) → w < slots → now ≡ paste ring at (mixed_frame p slots codewords) (w * codeword_bytes p)
       → Is (mixing p (take (w * codeword_bytes p + codeword_bytes p - w * codeword_bytes p) (drop (w * codeword_bytes p) codewords))
       (take (at + w * codeword_bytes p + codeword_bytes p - (at + w * codeword_bytes p)) (drop (at + w * codeword_bytes p) now))) r y
@@ -127,14 +123,14 @@ module _ (p slots : ℕ) (codewords ring : List ℕ) (at : ℕ) (h : Takes p slo
 
   -- and with the size as it was found
   module _ (z : ℕ) (e : z ≡ codeword_bytes p) where
-    pub turn_by : (w : ℕ) → w < slots → w * z + z ≤ slots * codeword_bytes p
-    turn_by w l = subst (λ (x : ℕ). w * x + x ≤ slots * codeword_bytes p) (sym e) (turn w l)
-
-    pub length_by : (w : ℕ) → w ≤ slots → length (paste ring at (mixed_frame p slots codewords) (w * z)) ≡ length ring
-    length_by w l = subst (λ (x : ℕ). length (paste ring at (mixed_frame p slots codewords) (w * x)) ≡ length ring) (sym e) (taken_length w l)
-
-    pub none_by : ring ≡ paste ring at (mixed_frame p slots codewords) (0 * z)
-    none_by = subst (λ (x : ℕ). ring ≡ paste ring at (mixed_frame p slots codewords) (0 * x)) (sym e) taken_none
+    pub turn_accepted : (w : ℕ) (now : List ℕ) → w < slots → now ≡ paste ring at (mixed_frame p slots codewords) (w * z)
+        → (mixing p (take (w * z + z - w * z) (drop (w * z) codewords)) (take (at + w * z + z - (at + w * z)) (drop (at + w * z) now))).answer ≡ 0
+    turn_accepted =
+        subst
+        (λ (z : ℕ).
+        (w : ℕ) (now : List ℕ) → w < slots → now ≡ paste ring at (mixed_frame p slots codewords) (w * z)
+        → (mixing p (take (w * z + z - w * z) (drop (w * z) codewords)) (take (at + w * z + z - (at + w * z)) (drop (at + w * z) now))).answer ≡ 0)
+        (sym e) accepted
 
     pub turn_taken : (w : ℕ) (now y : List ℕ) (r : ℕ) → w < slots → now ≡ paste ring at (mixed_frame p slots codewords) (w * z)
         → Is (mixing p (take (w * z + z - w * z) (drop (w * z) codewords)) (take (at + w * z + z - (at + w * z)) (drop (at + w * z) now))) r y

@@ -1,7 +1,7 @@
 -- The lines of payload pipes and of the tail, from what was read for them, and the loop over the pipes.
 -- Assumes nothing.
-use Prim.Native.Nat.{ℕ, suc, ◌+◌, ◌*◌, ◌≤◌, ◌<◌}
-use mathlib.Core.Path.{◌≡◌, refl, sym, ap, ◌∙◌}
+use Prim.Native.Nat.{ℕ, suc, ◌+◌, ◌*◌}
+use mathlib.Core.Path.{◌≡◌, sym, ap, ◌∙◌}
 use mathlib.Core.List.{List, [], ◌∷◌, ◌++◌, append-nil, append_assoc}
 use native.Mathlib.Nat.{add-zero, add-suc, suc-add}
 use native.Mathlib.Omega.{arith}
@@ -16,7 +16,7 @@ use Rattle.records.specs.Records.{pipe_of, pipe_at, tail_at}
 use Rattle.records.specs.declared.Pipe.{Pipe}
 use Rattle.ground.specs.Table.{tab}
 use Rattle.words.specs.Words.{line, put}
-use Rattle.words.proofs.Puts.{put_none, put_same, put_long, put_more}
+use Rattle.words.proofs.Puts.{put_none, put_same, put_more}
 use Rattle.pipe_lines.specs.Lines.{pipe_line, pipe_lines, tail_line}
 
 -- ---- each line is the text with the numbers that were read
@@ -46,16 +46,14 @@ lines_append k (f ∷ a) b =
     ap (λ (x : List ℕ). pipe_line k f ++ x) (lines_append (suc k) a b ∙ ap (λ (j : ℕ). pipe_lines (suc k) a ++ pipe_lines j b) (suc-add k (length a) ∙ sym (add-suc k (length a))))
     ∙ sym (append_assoc (pipe_line k f) (pipe_lines (suc k) a) (pipe_lines (k + suc (length a)) b))
 
--- the lines of the first i of p pipes are put
-pub record Lined (o : List ℕ) (to : ℕ) (w : List ℕ) (at p : ℕ) (new : List ℕ) (next i : ℕ) : Type 0 where
-  pub so_far : Is (put o to (pipe_lines 1 (rows_at table16 48 i w at))) next new
-  pub within : i ≤ p
-  pub same : length new ≡ length o
+-- the lines of the first i pipes are put
+abbrev pub Lined : List ℕ → ℕ → List ℕ → ℕ → List ℕ → ℕ → ℕ → Type 0
+Lined o to w at new next i = Is (put o to (pipe_lines 1 (rows_at table16 48 i w at))) next new
 
-module _ (o : List ℕ) (to : ℕ) (w : List ℕ) (at p : ℕ) where
-  pub lined_none : Lined o to w at p o to 0
+module _ (o : List ℕ) (to : ℕ) (w : List ℕ) (at : ℕ) where
+  pub lined_none : Lined o to w at o to 0
   unfolding pipe_lines rows_at tab
-  lined_none = record { so_far = put_none o to; within = omega arith; same = refl }
+  lined_none = put_none o to
 
   -- a line more
   line_more : (i : ℕ) → pipe_lines 1 (rows_at table16 48 (i + 1) w at) ≡ pipe_lines 1 (rows_at table16 48 i w at) ++ pipe_line (i + 1) (row_at table16 w (at + 48 * i))
@@ -68,17 +66,8 @@ module _ (o : List ℕ) (to : ℕ) (w : List ℕ) (at p : ℕ) where
       ∙ ap (λ (n : ℕ). pipe_lines 1 rows ++ pipe_lines n (f ∷ [])) k
       ∙ ap (λ (x : List ℕ). pipe_lines 1 rows ++ x) (append-nil (pipe_line (i + 1) f))
 
-  pub lined_more : {new new' : List ℕ} {next next' i : ℕ} → Lined o to w at p new next i → i < p → (q : Pipe) → q ≡ pipe_at w at i
-      → Is (put new next (pipe_text (i + 1) q)) next' new' → Lined o to w at p new' next' (i + 1)
-  lined_more {new} {new'} {next} {next'} {i} l h q e n =
-      let f : List ℕ = pipe_line (i + 1) (row_at table16 w (at + 48 * i)) in
-      let t : Is (put o to (pipe_lines 1 (rows_at table16 48 i w at) ++ f)) next' new' =
-      put_more o to (pipe_lines 1 (rows_at table16 48 i w at)) f l.so_far (put_same new next (pipe_text_lem w at i q e) n) in
-      record {
-        so_far = put_same o to (sym (line_more i)) t;
-        within = omega arith;
-        same = put_long o to (pipe_lines 1 (rows_at table16 48 i w at) ++ f) t;
-      }
-
-  pub lined_all : {new : List ℕ} {next i : ℕ} → Lined o to w at p new next i → p ≤ i → Is (put o to (pipe_lines 1 (rows_at table16 48 p w at))) next new
-  lined_all {i = i} l h = let e : i ≡ p = omega (arith, l.within) in put_same o to (ap (λ (k : ℕ). pipe_lines 1 (rows_at table16 48 k w at)) e) l.so_far
+  pub lined_more : {new new' : List ℕ} {next next' : ℕ} (i : ℕ) → Lined o to w at new next i → (q : Pipe) → q ≡ pipe_at w at i
+      → Is (put new next (pipe_text (i + 1) q)) next' new' → Lined o to w at new' next' (i + 1)
+  lined_more {new} {next = next} i l q e n =
+      put_same o to (sym (line_more i))
+      (put_more o to (pipe_lines 1 (rows_at table16 48 i w at)) (pipe_line (i + 1) (row_at table16 w (at + 48 * i))) l (put_same new next (pipe_text_lem w at i q e) n))

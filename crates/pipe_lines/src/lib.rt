@@ -13,8 +13,7 @@ pub fn pipes(sheet: &[u8], at: u32, p: u8, out: &mut [u8], to: usize) -> usize
     ensures { Is (put out.old to (pipe_lines 1 (rows_at table16 48 p sheet.now at))) result out.new }
 {
     let mut next = to;
-    let mut i: u8 = 0;
-    while i < p {
+    for i in 0..p {
         let q = records::pipe_at(sheet, at, i);
         next = words::line(
             out,
@@ -22,7 +21,6 @@ pub fn pipes(sheet: &[u8], at: u32, p: u8, out: &mut [u8], to: usize) -> usize
             b"pipe # pattern=# width=# streams=# sections=#\n",
             &[i as u32 + 1, q.pattern, q.width, q.s as u32, q.d as u32],
         );
-        i += 1;
     }
     next
 }

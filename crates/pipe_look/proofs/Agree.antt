@@ -6,9 +6,18 @@ use borrow.Fn.World.{ArgsD, ResD}
 use borrow.Fn.Kinds.{ended_of}
 use denote.Triple.Clauses.{AtExit}
 use Rattle.ground.proofs.Outcome.{same}
+use Rattle.ground.proofs.Refusals.{status_same}
+use Rattle.pipe_look.specs.contracts.look as look
+use Rattle.pipe_look.proofs.look.Kinds as look_kinds
+use Rattle.pipe_look.proofs.look.Reads as look_reads
 use Rattle.pipe_look.specs.contracts.refusal as refusal
 use Rattle.pipe_look.proofs.refusal.Kinds as refusal_kinds
 use Rattle.pipe_look.proofs.refusal.Reads as refusal_reads
+
+module _ (κs : Lfts 0) (a : ArgsD look.signature κs) where
+  pub look_agrees : (r r' : ResD look.signature κs) (s s' : AtExit (ended_of 0 look_kinds.ps look_kinds.r) κs) →
+      look_reads.Post κs a r s → look_reads.Post κs a r' s' → r ≡ r'
+  look_agrees r r' s s' p q = status_same r r' (same p q)
 
 module _ (κs : Lfts 0) (a : ArgsD refusal.signature κs) where
   pub refusal_agrees : (r r' : ResD refusal.signature κs) (s s' : AtExit (ended_of 0 refusal_kinds.ps refusal_kinds.r) κs) →

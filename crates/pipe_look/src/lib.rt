@@ -3,9 +3,10 @@
 
 ghost use Rattle.std.specs.Prelude.{◌≡◌};
 ghost use Rattle.ground.specs.Choice.{first_of};
+ghost use Rattle.ground.specs.Refusals.{status};
 ghost use Rattle.pipe_look.specs.Faults.{frame_faults};
 
-use ground::{FRAME_WRONG, PATTERN_ABOVE_27};
+use ground::refusal::{Refusal, status};
 
 // The highest pattern number (table 8).
 const PATTERN_MOST: u32 = 27;
@@ -13,7 +14,32 @@ const PATTERN_MOST: u32 = 27;
 // The bytes of a capacity unit: 2,048 bits (clause 4.6).
 const CAPACITY_UNIT: usize = 256;
 
-// Why a frame of a pipe is not made, 0 where it is: by the refusal of its profile, the greatest delay, its pattern and width, and the lengths that are lent.
+// Why a frame of a pipe whose profile is not refused is not made, if so: by the greatest delay, its pattern and width, and the lengths that are lent.
+pub fn look(
+    greatest: u16,
+    pattern: u32,
+    width: u16,
+    codewords: usize,
+    memory: usize,
+    out: usize,
+) -> Result<(), Refusal>
+    ensures { status result ≡ first_of (frame_faults 0 greatest pattern width codewords memory out) }
+{
+    if PATTERN_MOST < pattern {
+        return Err(Refusal::PatternAbove27);
+    }
+    let size = width as usize * CAPACITY_UNIT;
+    if width % patterns::units(pattern as usize) as u16 != 0
+        || codewords != size
+        || memory != (greatest as usize + 1) * size
+        || out != size
+    {
+        return Err(Refusal::FrameWrong);
+    }
+    Ok(())
+}
+
+// The refusal of a frame, with that of the pipe's profile before it: a number, 0 for none. What is handed on is any number, so the answer is one too.
 pub fn refusal(
     profile: u8,
     greatest: u16,
@@ -25,24 +51,8 @@ pub fn refusal(
 ) -> u8
     ensures { result ≡ first_of (frame_faults profile greatest pattern width codewords memory out) }
 {
-    let size = width as usize * CAPACITY_UNIT;
     if 0 < profile {
         return profile;
     }
-    if PATTERN_MOST < pattern {
-        return PATTERN_ABOVE_27;
-    }
-    if width % patterns::units(pattern as usize) as u16 != 0 {
-        return FRAME_WRONG;
-    }
-    if codewords != size {
-        return FRAME_WRONG;
-    }
-    if memory != (greatest as usize + 1) * size {
-        return FRAME_WRONG;
-    }
-    if out != size {
-        return FRAME_WRONG;
-    }
-    0
+    status(look(greatest, pattern, width, codewords, memory, out))
 }

@@ -1,24 +1,25 @@
 -- What placement leaves: the lane as it was where it refuses, and else each place with the sum of its copies.
 -- Assumes nothing.
-use Prim.Native.Nat.{ℕ, ◌<◌}
+use Prim.Native.Nat.{ℕ, ◌≤◌, ◌<◌}
 use mathlib.Core.Path.{◌≡◌, refl, sym, ap, ◌∙◌, subst}
 use mathlib.Core.Bool.{Bool, true, false, not}
 use mathlib.Core.List.{List, [], ◌∷◌}
 use mathlib.Core.Logic.{⊎_elim}
 use native.Mathlib.Omega.{arith}
-use lib.Dec.{eqb}
+use lib.Dec.{eqb, ltb}
 use lib.ListN.{length}
 use lib.IntN.{ℤ, pos}
-use borrow.Author.Tests.{eq-eqb, eqb-true}
+use borrow.Author.Tests.{eq-eqb, eqb-true, ne_eqb, le-ltb}
 use Rattle.ground.specs.Choice.{choose, Fault, refuse, first_of}
 use Rattle.ground.specs.Outcome.{Is}
-use Rattle.ground.proofs.Choice.{choose_true}
+use Rattle.ground.proofs.Choice.{choose_true, choose_false}
+use Rattle.ground.proofs.Faults.{first_before}
 use Rattle.ground.proofs.Refusing.{refusal_leaves, acceptance_leaves}
 use Rattle.ground.proofs.Table.{tab_ext}
 use Rattle.patterns.specs.Rows.{copies}
 use Rattle.patterns.specs.Blocks.{block_by, block_faults, Coded}
 use Rattle.patterns.specs.Sent.{places, total, sent, code_length}
-use Rattle.patterns.proofs.Blocks.{fit_coded, coded_fit, fit_after, coded_bounds}
+use Rattle.patterns.proofs.Blocks.{fit_coded, coded_fit, fit_after, coded_bounds, block_le}
 use Rattle.patterns.proofs.Length.{total_rule}
 use Rattle.placement.specs.Place.{received_from, held, placed, block_of, faults, placing}
 use Rattle.placement.specs.Inside.{run, Placeable, Placed}
@@ -38,18 +39,6 @@ placed_is p n values lane h =
 pub placeable_still : {p n : ℕ} {values lane lane' : List ℤ} {at q : ℕ} → Placeable p n values lane → Placed p n values lane' at q → Placeable p n values lane'
 placeable_still h u = record { pattern = h.pattern; some = h.some; most = h.most; all = h.all; room = u.len }
 
--- a refusal leaves the lane as it was
-pub refused : (p r : ℕ) (values lane : List ℤ) → r ≡ first_of (faults p (block_of lane) (length values)) → (r ≡ 0 → ⊥) → Is (placing p values lane) r lane
-unfolding placing
-refused p r values lane e h = refusal_leaves (first_of (faults p (block_of lane) (length values))) (placed p (block_of lane) values) lane e h
-
-pub wrote : (p n : ℕ) (values lane lane' : List ℤ) {at : ℕ} → n ≡ block_of lane → first_of (faults p (block_of lane) (length values)) ≡ 0 → Placed p n values lane' at (places n)
-    → Is (placing p values lane) 0 lane'
-unfolding placing
-wrote p n values lane lane' en z h =
-    acceptance_leaves (first_of (faults p (block_of lane) (length values))) (placed p (block_of lane) values) lane z
-    (placed_is p n values lane' h ∙ ap (λ (m : ℕ). placed p m values) en)
-
 -- a lane's length is that of its block's places
 lane_length : (len : ℕ) → (block_by 61440 3840 len ≡ 0 → ⊥) → len ≡ places (block_by 61440 3840 len)
 unfolding block_by
@@ -61,7 +50,7 @@ lane_length len = go (eqb len 61440) (eqb len 3840) refl refl
     go false false ea eb h = absurd (h refl)
 
 -- where nothing is refused, the values can be placed
-pub placeable : (p n : ℕ) (values lane : List ℤ) → n ≡ block_of lane → first_of (block_faults p n) ≡ 0 → length values ≡ code_length p n → Placeable p n values lane
+placeable : (p n : ℕ) (values lane : List ℤ) → n ≡ block_of lane → first_of (block_faults p n) ≡ 0 → length values ≡ code_length p n → Placeable p n values lane
 placeable p n values lane e z l =
     let h : Coded p n = subst (λ (m : ℕ). first_of (block_faults p m) ≡ 0 → Coded p m) (sym e) (fit_coded 61440 3840 (length lane) p) z in
     let b = coded_bounds p n h in
@@ -72,6 +61,42 @@ placeable p n values lane e z l =
       all = total_rule p n h ∙ sym l;
       room = lane_length (length lane) (λ q. omega (arith, b.1, e, q)) ∙ ap places (sym e);
     }
+
+-- what the code finds, of the block that the lane's length tells: what patterns answers of it, and how many code bits it has
+module _ (p : ℕ) (values lane : List ℤ) {n : ℕ} (block : n ≡ block_of lane) where
+  -- a refusal leaves the lane as it was
+  refused : {r : ℕ} → r ≡ first_of (faults p n (length values)) → (r ≡ 0 → ⊥) → Is (placing p values lane) r lane
+  unfolding placing
+  refused e h =
+      refusal_leaves (first_of (faults p (block_of lane) (length values))) (placed p (block_of lane) values) lane (e ∙ ap (λ (m : ℕ). first_of (faults p m (length values))) block) h
+
+  pub refused_unfit : {r : ℕ} → r ≡ first_of (block_faults p n) → (r ≡ 0 → ⊥) → Is (placing p values lane) r lane
+  unfolding faults
+  refused_unfit e h = refused (e ∙ sym (first_before (block_faults p n) (refuse 1 (not (eqb (length values) (code_length p n))) ∷ []) (λ z. h (e ∙ z)))) h
+
+  module _ (fits : 0 ≡ first_of (block_faults p n)) {size : ℕ} (told : size ≡ choose (ltb 12282 n) 0 (code_length p n)) where
+    size_is : size ≡ code_length p n
+    size_is = told ∙ choose_false 0 (code_length p n) (le-ltb 12282 n (subst (λ (m : ℕ). m ≤ 12282) (sym block) (block_le 61440 3840 _)))
+
+    late : first_of (faults p n (length values)) ≡ choose (not (eqb (length values) size)) 1 0
+    unfolding faults
+    late =
+        fit_after p n (refuse 1 (not (eqb (length values) (code_length p n))) ∷ []) (sym fits)
+        ∙ ap (λ (l : ℕ). choose {A = ℕ} (not (eqb (length values) l)) 1 0) (sym size_is)
+
+    pub refused_length : (length values ≡ size → ⊥) → Is (placing p values lane) 1 lane
+    refused_length h = refused (sym (late ∙ ap (λ (t : Bool). choose {A = ℕ} (not t) 1 0) (ne_eqb (length values) size h))) (λ z. omega arith)
+
+    module _ (l : length values ≡ size) where
+      pub asked : Placeable p n values lane
+      asked = placeable p n values lane block (sym fits) (l ∙ size_is)
+
+      pub wrote : {lane' : List ℤ} {at : ℕ} → Placed p n values lane' at (places n) → Is (placing p values lane) 0 lane'
+      unfolding placing
+      wrote {lane'} h =
+          acceptance_leaves (first_of (faults p (block_of lane) (length values))) (placed p (block_of lane) values) lane
+          (ap (λ (m : ℕ). first_of (faults p m (length values))) (sym block) ∙ late ∙ ap (λ (t : Bool). choose {A = ℕ} (not t) 1 0) (eq-eqb (length values) size l))
+          (placed_is p n values lane' h ∙ ap (λ (m : ℕ). placed p m values) block)
 
 -- a lane with as many places as a block has is that block's
 lane_block : (p n : ℕ) → Coded p n → block_by 61440 3840 (places n) ≡ n

@@ -1,6 +1,6 @@
 -- Laws of placement by groups: one symbol more, and one group more of a lane.
 -- Assumes nothing.
-use Prim.Native.Nat.{ℕ, zero, suc, ◌+◌, ◌*◌, ◌%◌, ◌≤◌, ◌<◌}
+use Prim.Native.Nat.{ℕ, zero, suc, ◌+◌, ◌*◌, ◌/◌, ◌%◌, ◌≤◌, ◌<◌}
 use mathlib.Core.Path.{◌≡◌, refl, sym, ap, ap₂, ◌∙◌, subst, subst₂}
 use mathlib.Core.List.{List}
 use native.Mathlib.Nat.{add-zero, add_assoc}
@@ -16,8 +16,8 @@ use Rattle.patterns.specs.Rows.{digit, copies}
 use Rattle.patterns.specs.Sent.{places, total}
 use Rattle.puncturing.specs.Entries.{entries}
 use Rattle.patterns.proofs.Totals.{total_zero, total_more, total_mono, total_cong, total_add}
-use Rattle.patterns.proofs.Groups.{data_once, tail_sent}
-use Rattle.puncturing.proofs.Lanes.{data_digit}
+use Rattle.patterns.proofs.Groups.{data_once, tail_sent, copies_le}
+use Rattle.puncturing.proofs.Lanes.{data_digit, tail_digit}
 use Rattle.placement.specs.Place.{held}
 use Rattle.placement.specs.Inside.{run, Once, placed_group, Placeable, Placed}
 
@@ -50,6 +50,11 @@ module _ (values : List ℤ) (at counts : ℕ) (lane : List ℤ) (k : ℕ) where
   group_at_lem zero = sym (add-zero at)
   group_at_lem (suc j) = ap (λ (x : ℕ). x + digit counts j) (group_at_lem j) ∙ add_assoc at (total (digit counts) j) (digit counts j)
 
+  -- as long as values are there for all five symbols, and one more, they are for the next one
+  pub group_enough : {j n r : ℕ} {m : List ℤ} → Is (placed_group values at counts lane k j) r m → n ≡ digit counts j → at + total (digit counts) 5 < length values → j < 5 → r + n < length values
+  group_enough {j} o e room h =
+      omega (arith, o.answer ∙ group_at_lem j, e, total_more (digit counts) j, total_mono (digit counts) (j + 1) 5 (omega arith))
+
 module _ (p n : ℕ) (values : List ℤ) where
   pub placed_none : (lane : List ℤ) → length lane ≡ places n → Placed p n values lane 0 0
   placed_none lane e =
@@ -75,6 +80,16 @@ module _ (p n : ℕ) (values : List ℤ) where
       let e : 5 * i + j + 1 ≡ 5 * i + suc j = omega arith in
       subst (Placed p n values (set o.memory (5 * i + j) (held (run values o.answer (digit counts j)))) (o.answer + digit counts j)) e
       (placed_more o.memory o.answer (5 * i + j) (digit counts j) _ (placed_symbols lane at i counts u room ec j (omega arith)) (omega arith) (ec j (omega arith)) refl)
+
+-- the tail's next place: the digit that is read is how often it is sent, at most three times, and its values are there
+pub tail_next : {p n : ℕ} {values lane₀ lane : List ℤ} {v k c d : ℕ} {x : List ℕ} → Placeable p n values lane₀ → Placed p n values lane v (5 * n + k) → k < 30
+    → x ≡ entries p → d ≡ digit (get_or x (12 + k / 5) 0) (k % 5) → c ≡ d → (c ≡ copies p n (5 * n + k)) × (v + c ≤ length values) × (c ≤ 3)
+tail_next {p} {n} {k = k} {c = c} h u l e ed ec =
+    let sent : c ≡ copies p n (5 * n + k) = ec ∙ ed ∙ ap (λ (y : List ℕ). digit (get_or y (12 + k / 5) 0) (k % 5)) e ∙ tail_digit p n k h.pattern l in (
+      sent,
+      omega (arith, u.next, h.all, sent, total_more (copies p n) (5 * n + k), total_mono (copies p n) (5 * n + k + 1) (places n) (omega arith)),
+      omega (arith, sent, copies_le p n (5 * n + k) h.pattern (omega arith)),
+    )
 
 -- how many values a group takes
 group_total : (c : ℕ → ℕ) (i counts : ℕ) → ((j : ℕ) → j < 5 → digit counts j ≡ c (5 * i + j)) → total c (5 * i) + total (digit counts) 5 ≡ total c (5 * (i + 1))

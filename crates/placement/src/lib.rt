@@ -1,34 +1,25 @@
 // Placement: received values go to the places of the encoder's output from which they were sent (clauses 4.4.2 and 4.4.3).
 #![tactic(auto)]
 
-ghost use Rattle.std.specs.Prelude.{◌≡◌, [], ◌∷◌, ◌+◌, ◌*◌, ◌<◌, ◌≤◌, ◌+ℤ◌, length, take};
-ghost use Rattle.std.specs.Int.Signed.{mag};
+ghost use Rattle.std.specs.Prelude.{◌≡◌, [], ◌∷◌, ◌+◌, ◌*◌, ◌<◌, ◌≤◌, length, take};
 ghost use Rattle.ground.specs.Outcome.{Is};
+ghost use Rattle.ground.specs.Refusals.{status};
 ghost use Rattle.patterns.specs.Rows.{digit};
 ghost use Rattle.patterns.specs.Sent.{places, total};
 ghost use Rattle.placement.specs.Place.{held, placing};
-ghost use Rattle.placement.specs.Inside.{run, Once, placed_group, Placeable, Placed};
+ghost use Rattle.placement.specs.Inside.{Once, placed_group, Placeable, Placed};
 
+use ground::refusal::Refusal;
 use puncturing::{DATA_ENTRIES, TAIL_PLACES};
 
-// A sum with one value more.
-fn added(sum: i16, value: i8) -> i16
-    requires { mag sum ≤ 1024 }
-    ensures { result ≡ sum +ℤ value }
+// What a place holds: the sum of its copies.
+fn held(copies: &[i8]) -> i16
+    requires { length copies.now < 8 }
+    ensures { result ≡ held copies.now }
 {
-    sum + value as i16
-}
-
-// What a place holds: the sum of its copies, which are the n values from a place on.
-fn held(values: &[i8], at: usize, n: u8) -> i16
-    requires { (n < 8) × (at + n ≤ length values.now) }
-    ensures { result ≡ held (run values.now at n) }
-{
-    let mut sum: i16 = 0;
-    let mut t = 0;
-    while t < n {
-        sum = added(sum, values[at + t as usize]);
-        t += 1;
+    let mut sum = 0;
+    for copy in copies {
+        sum += i16::from(*copy);
     }
     sum
 }
@@ -38,7 +29,7 @@ fn once(value: i8, n: u8) -> i16
     requires { n < 2 }
     ensures { result ≡ held (take n (value ∷ [])) }
 {
-    value as i16 * n as i16
+    i16::from(value) * i16::from(n)
 }
 
 // The five places of a data group, from the place k on; returns the next value's place. A value follows the group's: the tail's.
@@ -47,12 +38,10 @@ fn place_group(values: &[i8], at: usize, counts: u16, lane: &mut [i16], k: usize
     ensures { Is (placed_group values.now at counts lane.old k 5) result lane.new }
 {
     let mut v = at;
-    let mut j = 0;
-    while j < 5 {
+    for j in 0..5 {
         let n = puncturing::digit(counts, j);
         lane[k + j] = once(values[v], n);
-        v += n as usize;
-        j += 1;
+        v += usize::from(n);
     }
     v
 }
@@ -67,11 +56,9 @@ fn place_data(pattern: usize, n: usize, values: &[i8], lane: &mut [i16]) -> usiz
 {
     let entries = puncturing::entries(pattern);
     let mut at = 0;
-    let mut i = 0;
     let mut j = 0;
-    while i < n {
+    for i in 0..n {
         at = place_group(values, at, entries[j], lane, 5 * i);
-        i += 1;
         j = if j == LAST_DATA { 0 } else { j + 1 };
     }
     at
@@ -84,12 +71,10 @@ fn place_tail(pattern: usize, n: usize, values: &[i8], at: usize, lane: &mut [i1
 {
     let entries = puncturing::entries(pattern);
     let mut v = at;
-    let mut k = 0;
-    while k < TAIL_PLACES {
-        let c = puncturing::digit(entries[DATA_ENTRIES + k / 5], k % 5);
-        lane[5 * n + k] = held(values, v, c);
-        v += c as usize;
-        k += 1;
+    for k in 0..TAIL_PLACES {
+        let c = usize::from(puncturing::digit(entries[DATA_ENTRIES + k / 5], k % 5));
+        lane[5 * n + k] = held(&values[v..v + c]);
+        v += c;
     }
 }
 
@@ -98,20 +83,17 @@ const PAYLOAD_LANE: usize = 61440;
 
 const SIGNALLING_LANE: usize = 3840;
 
-// Places one value for each code bit into the lent lane and returns 0; or returns why not, and leaves the lane as it was.
-pub fn place(pattern: u32, values: &[i8], lane: &mut [i16]) -> u8
-    ensures { Is (placing pattern values.now lane.old) result lane.new }
+// Places one value for each code bit into the lent lane; or says why not, and leaves the lane as it was.
+pub fn place(pattern: u32, values: &[i8], lane: &mut [i16]) -> Result<(), Refusal>
+    ensures { Is (placing pattern values.now lane.old) (status result) lane.new }
 {
     let p = pattern as usize;
     let n = patterns::block_by(PAYLOAD_LANE, SIGNALLING_LANE, lane.len());
-    let unfit = patterns::unfit(p, n);
-    if unfit != 0 {
-        return unfit;
-    }
+    patterns::unfit(p, n)?;
     if values.len() != patterns::code_length(p, n) {
-        return ground::LENGTH_WRONG;
+        return Err(Refusal::LengthWrong);
     }
     let at = place_data(p, n, values, lane);
     place_tail(p, n, values, at, lane);
-    0
+    Ok(())
 }

@@ -4,22 +4,19 @@
 pub mod sof;
 
 ghost use Rattle.ground.specs.Outcome.{Is};
+ghost use Rattle.ground.specs.Refusals.{status};
 ghost use Rattle.preamble.specs.Preamble.{written};
 
 use crate::sof::PREAMBLE;
+use ground::refusal::Refusal;
 
-// Writes the preamble that is due into 32 bytes and returns 0; returns 1 and touches nothing where the length is another.
-pub fn write(inverted: bool, out: &mut [u8]) -> u8
-    ensures { Is (written inverted out.old) result out.new }
+// Writes the preamble that is due into 32 bytes; refuses any other length and touches nothing.
+pub fn write(inverted: bool, out: &mut [u8]) -> Result<(), Refusal>
+    ensures { Is (written inverted out.old) (status result) out.new }
 {
     if out.len() != PREAMBLE {
-        return ground::LENGTH_WRONG;
+        return Err(Refusal::LengthWrong);
     }
-    let sof = sof::due(inverted);
-    let mut i = 0;
-    while i < PREAMBLE {
-        out[i] = sof[i];
-        i += 1;
-    }
-    0
+    out.copy_from_slice(&sof::due(inverted));
+    Ok(())
 }

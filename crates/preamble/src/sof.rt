@@ -6,7 +6,7 @@ ghost use Rattle.preamble.specs.Preamble.{due};
 pub const PREAMBLE: usize = 32;
 
 // Those that are due. The inverted ones stand here as well, since to invert them in each call takes longer than to copy them.
-pub fn due(inverted: bool) -> [u8; 32]
+pub fn due(inverted: bool) -> [u8; PREAMBLE]
     ensures { result ≡ due inverted }
 {
     if inverted {

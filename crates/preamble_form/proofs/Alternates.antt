@@ -91,5 +91,5 @@ module _ (c : Bool) (out m : List ℕ) (r : ℕ) (o : Is (written c out) r m) (z
   -- also in one byte
   pub into_left : (w b f : List ℕ) (n : ℕ) → w ≡ m → length b ≡ 1 → Is (form_into w b) n f → (n ≡ 0) × (f ≡ (told (asked c)).values)
   into_left w b f n e l p =
-      let q = agree p (into_done w b (form_of (due c) ∷ []) l (told_left w e) refl refl) in
+      let q = agree p (into_done w b (form_of (due c) ∷ []) l (told_left w e) refl) in
       (q.0, q.1 ∙ sym (ap (λ (t : Told). t.values) (form_due c)))

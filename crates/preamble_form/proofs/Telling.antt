@@ -1,44 +1,35 @@
 -- Laws of the forms: the test that tells two lists apart, what is told of bytes, and what that says.
 -- Assumes nothing.
-use Prim.Native.Nat.{ℕ, zero, suc, ◌<◌}
-use mathlib.Core.Bool.{Bool, true, false, ◌&&◌}
-use mathlib.Core.Path.{◌≡◌, refl, sym, ap, ◌∙◌, subst}
+use Prim.Native.Nat.{ℕ}
+use mathlib.Core.Bool.{true, false}
+use mathlib.Core.Path.{◌≡◌, refl, sym, ap, ◌∙◌}
 use mathlib.Core.List.{List, [], ◌∷◌}
-use native.Mathlib.Nat.{not-suc-le-zero}
 use native.Mathlib.Omega.{arith}
 use borrow.Author.Tests.{eq-eqb, ne_eqb}
 use lib.Dec.{eqb}
-use lib.ListN.{length, get_or, take}
+use lib.ListN.{length, set}
+use lib.Pointwise.{pointwise}
+use Rattle.std.specs.Prelude.{Option, None, Some, Result, Ok, Err}
 use Rattle.ground.specs.Outcome.{Is, Told}
 use Rattle.ground.specs.Choice.{choose, both, first_of}
 use Rattle.ground.specs.Table.{same}
+use Rattle.ground.specs.declared.refusal.Refusal.{Refusal}
+use Rattle.ground.proofs.Refusals.{number_not_0, number_same}
 use Rattle.ground.proofs.Choice.{choose_true, choose_false}
 use Rattle.ground.proofs.Refusing.{refusal_leaves, acceptance_leaves}
 use Rattle.ground.proofs.Answers.{refused_by, accepted_with, verdict_accepted, verdict_refused, refused_by_lem, accepted_with_lem}
 use Rattle.preamble.specs.Preamble.{sof_inverted, due}
 use Rattle.preamble_form.specs.Forms.{form_of, told, form_faults, forming, form_into}
 use Rattle.preamble_form.specs.declared.Form.{Form}
-use Rattle.preamble_form.specs.declared.Form.TheVariants.{Neither, Upright, Inverted, Refused}
+use Rattle.preamble_form.specs.declared.Form.TheVariants.{Upright, Inverted}
 
--- ---- the test
-
--- one entry more
-pub same_more : (l m : List ℕ) (i : ℕ) → i < length l → i < length m
-    → same (take (suc i) l) (take (suc i) m) ≡ same (take i l) (take i m) && eqb (get_or l i 0) (get_or m i 0)
+-- ---- the test: what == of two slices gives
+pub same_pointwise : (l m : List ℕ) → pointwise eqb l m ≡ same l m
 unfolding same
-same_more [] m i h k = absurd (not-suc-le-zero h)
-same_more (x ∷ l) [] i h k = absurd (not-suc-le-zero k)
-same_more (x ∷ l) (y ∷ m) zero h k = only (eqb x y)
-  where
-    only : (b : Bool) → both b true ≡ b
-    only true = refl
-    only false = refl
-same_more (x ∷ l) (y ∷ m) (suc i) h k =
-    ap (both (eqb x y)) (same_more l m i (omega arith) (omega arith)) ∙ past (eqb x y) (same (take i l) (take i m)) (eqb (get_or l i 0) (get_or m i 0))
-  where
-    past : (a b c : Bool) → both a (b && c) ≡ both a b && c
-    past true b c = refl
-    past false b c = refl
+same_pointwise [] [] = refl
+same_pointwise [] (y ∷ m) = refl
+same_pointwise (x ∷ l) [] = refl
+same_pointwise (x ∷ l) (y ∷ m) = ap (both (eqb x y)) (same_pointwise l m)
 
 -- ---- what is told of bytes
 
@@ -85,27 +76,35 @@ module _ (w out : List ℕ) where
       let t = refusal_told w e in
       refusal_leaves _ (form_of w ∷ []) out (t.1 ∙ simp (eq-eqb (length out) 1 h)) (λ z. t.0 (sym t.1 ∙ z))
 
-  pub into_done : {f r : ℕ} (m : List ℕ) → length out ≡ 1 → accepted_with (f ∷ []) ≡ forming w → r ≡ 0 → m ≡ f ∷ [] → Is (form_into w out) r m
+  pub into_done : {f : ℕ} (m : List ℕ) → length out ≡ 1 → accepted_with (f ∷ []) ≡ forming w → m ≡ f ∷ [] → Is (form_into w out) 0 m
   unfolding form_into
-  into_done m h e z q =
+  into_done m h e q =
       let t = form_told w e in
-      subst (λ (r : ℕ). Is (form_into w out) r m) (sym z)
-      (acceptance_leaves _ (form_of w ∷ []) out (simp (eq-eqb (length out) 1 h) t.0) (q ∙ ap (λ (n : ℕ). n ∷ []) t.1))
+      acceptance_leaves _ (form_of w ∷ []) out (simp (eq-eqb (length out) 1 h) t.0) (q ∙ ap (λ (n : ℕ). n ∷ []) t.1)
+
+-- one byte, set
+pub only : (l : List ℕ) (v : ℕ) → length l ≡ 1 → set l 0 v ≡ v ∷ []
+only [] v e = absurd (omega arith)
+only (x ∷ []) v e = refl
+only (x ∷ y ∷ l) v e = absurd (omega arith)
 
 -- what is told determines the answer
-unfoldable meant : List ℕ → ℕ → Form
-meant [] n = Refused n
-meant (f ∷ l) n = choose (eqb f 0) Neither (choose (eqb f 1) Upright Inverted)
+abbrev meant : List ℕ → Option Form
+meant [] = None
+meant (f ∷ l) = choose (eqb f 0) None (Some (choose (eqb f 1) Upright Inverted))
 
-abbrev meant_by : Told → Form
-meant_by t = meant t.values t.number
+meant_back : (f : Option Form) → meant (told (Ok f)).values ≡ f
+meant_back None = refl
+meant_back (Some Upright) = refl
+meant_back (Some Inverted) = refl
 
-meant_back : (h : Form) → meant_by (told h) ≡ h
-unfolding meant
-meant_back Neither = refl
-meant_back Upright = refl
-meant_back Inverted = refl
-meant_back (Refused n) = refl
+accepted : (f : Option Form) → (told (Ok f)).number ≡ 0
+accepted None = refl
+accepted (Some Upright) = refl
+accepted (Some Inverted) = refl
 
-pub told_inj : (h h' : Form) → told h ≡ told h' → h ≡ h'
-told_inj h h' e = sym (meant_back h) ∙ ap meant_by e ∙ meant_back h'
+pub told_inj : (h h' : Result (Option Form) Refusal) → told h ≡ told h' → h ≡ h'
+told_inj (Ok f) (Ok g) t = ap (λ (x : Option Form). Ok x) (sym (meant_back f) ∙ ap (λ (x : Told). meant x.values) t ∙ meant_back g)
+told_inj (Ok f) (Err e) t = absurd (number_not_0 e (sym (ap (λ (x : Told). x.number) t) ∙ accepted f))
+told_inj (Err e) (Ok f) t = absurd (number_not_0 e (ap (λ (x : Told). x.number) t ∙ accepted f))
+told_inj (Err d) (Err e) t = ap (λ (x : Refusal). Err x) (number_same (ap (λ (x : Told). x.number) t))

@@ -1,21 +1,23 @@
 -- What comes of a pipe as it is lent.
 -- Assumes nothing.
 use Prim.Native.Nat.{ℕ, zero, suc, ◌+◌, ◌*◌, ◌≤◌, ◌<◌}
-use mathlib.Core.Path.{◌≡◌, refl, sym, ap, ◌∙◌, subst}
-use mathlib.Core.Bool.{Bool, false, true, not}
+use mathlib.Core.Path.{◌≡◌, sym, ap, ap₂, ◌∙◌, subst}
+use mathlib.Core.Bool.{false, not}
 use mathlib.Core.List.{List, [], ◌∷◌, ◌++◌}
 use native.Mathlib.Nat.{mod-eq_of_lt}
 use native.Mathlib.Omega.{arith}
-use borrow.Author.Tests.{eq-eqb, ne_eqb}
+use borrow.Author.Tests.{eq-eqb}
 use lib.Dec.{eqb}
-use lib.ListN.{length, get_or, set, take, length-set, length-append, get_or-append}
-use lib.Seq.{ext_get_or, get_or-take, length-take-le, take_all, take-suc-set, get_or-append_seam}
+use lib.ListN.{length, get_or, set, drop, drop_of_length-le, length-append, get_or-append}
+use lib.Seq.{drop-cons, set_at, get_or-append_seam}
+use Rattle.std.specs.Prelude.{Result, Ok, Err}
+use Rattle.ground.specs.declared.refusal.Refusal.{Refusal}
 use Rattle.ground.specs.Outcome.{Is}
-use Rattle.ground.specs.Choice.{choose, first_of}
+use Rattle.ground.specs.Choice.{first_of}
 use Rattle.ground.specs.Table.{tab}
-use Rattle.ground.proofs.Choice.{choose_true, choose_false, hit, skip, either_false, no_difference, past}
+use Rattle.ground.proofs.Choice.{choose_true, either_false, no_difference, past}
 use Rattle.ground.proofs.Table.{length_tab}
-use Rattle.ground.proofs.Refusing.{refusal_leaves, acceptance_leaves}
+use Rattle.ground.proofs.Refusals.{number_not_0, number_same}
 use Rattle.bits.proofs.Places.{field_lt}
 use Rattle.description.specs.Rows.{Row, Each}
 use Rattle.description.specs.Fields.{table16, table19, disperser_inv_flag}
@@ -29,9 +31,8 @@ use Rattle.tap_lengths.specs.Lengths.{tap_total, intermed_len}
 use Rattle.tap_lengths.specs.Sections.{sections_at}
 use Rattle.tap_lengths.proofs.Sections.{section_row}
 use Rattle.tap_lengths.proofs.Walking.{sections_length}
-use Rattle.profile.specs.declared.Profiled.{Profiled}
 use Rattle.profile.specs.Profile.{tap_length, by_columns, flipped, profile_of}
-use Rattle.profile.specs.Lent.{lent_fields, lent_sections, profile_fault, no_profile, profiled, numbers_of, profile_faults, profiling}
+use Rattle.profile.specs.Lent.{Profiled, lent_fields, lent_sections, profile_fault, told, numbers_of, profile_faults, profiling}
 use Rattle.profile.specs.Wanted.{LentAtMost, Bounded}
 use Rattle.profile.proofs.Delays.{own_most, at_most, tap_most}
 
@@ -66,27 +67,12 @@ own_is l q e = ap (λ (x : Pipe). x.d) e
 pub own_small : (l : List ℕ) → own_sections (lent_fields l) ≤ 8
 own_small l = own_most (lent_fields l) (record_row l)
 
-module _ (l : List ℕ) where
-  pub of_length : (length l ≡ 6 + 2 * own_sections (lent_fields l) → ⊥) → record { refusal = 20; profile = no_profile } ≡ profiled l
-  unfolding profiled profile_fault
-  of_length n = sym (choose_true _ _ (hit _ (ap not (ne_eqb (length l) (6 + 2 * own_sections (lent_fields l)) n))))
-
-  pub of_taps : length l ≡ 6 + 2 * own_sections (lent_fields l) → (tap_total (lent_sections l) ≡ 32 → ⊥) → record { refusal = 20; profile = no_profile } ≡ profiled l
-  unfolding profiled profile_fault
-  of_taps e n =
-      sym (choose_true _ _ (skip (ap not (eq-eqb (length l) (6 + 2 * own_sections (lent_fields l)) e)) (ap not (ne_eqb (tap_total (lent_sections l)) 32 n))))
-
-  fine : length l ≡ 6 + 2 * own_sections (lent_fields l) → tap_total (lent_sections l) ≡ 32 → profile_fault l ≡ false
-  unfolding profile_fault
-  fine e t = skip (ap not (eq-eqb (length l) (6 + 2 * own_sections (lent_fields l)) e)) (ap not (eq-eqb (tap_total (lent_sections l)) 32 t))
-
-  pub of_made : length l ≡ 6 + 2 * own_sections (lent_fields l) → tap_total (lent_sections l) ≡ 32 → (p : Profile) → p ≡ profile_of (lent_fields l) (lent_sections l)
-      → record { refusal = 0; profile = p } ≡ profiled l
-  unfolding profiled
-  of_made e t p g = ap given g ∙ sym (choose_false _ _ (fine e t))
-    where
-      given : Profile → Profiled
-      given p = record { refusal = 0; profile = p }
+-- what is told of a pipe determines the answer
+pub told_inj : (r s : Result Profile Refusal) → told r ≡ told s → r ≡ s
+told_inj (Ok p) (Ok q) e = ap (λ (x : Profiled). Ok x.profile) e
+told_inj (Ok p) (Err f) e = absurd (number_not_0 f (sym (ap (λ (x : Profiled). x.refusal) e)))
+told_inj (Err e) (Ok q) h = absurd (number_not_0 e (ap (λ (x : Profiled). x.refusal) h))
+told_inj (Err e) (Err f) h = ap (λ (x : Refusal). Err x) (number_same (ap (λ (x : Profiled). x.refusal) h))
 
 -- ---- and of each that is not refused the greatest delay is at most 6,160
 
@@ -109,63 +95,11 @@ lent_at_most l f =
 
 -- ---- the numbers that are handed out
 
-pub numbers_are : (p : Profile) (out : List ℕ) → length p.taps ≡ 32 → length out ≡ 33 → ((j : ℕ) → j < 32 → get_or out j 0 ≡ get_or p.taps j 0)
-    → set out 32 p.greatest ≡ numbers_of p
+pub numbers_are : (p : Profile) (out : List ℕ) {x : List ℕ} → length p.taps ≡ 32 → length out ≡ 33 → x ≡ p.taps → set (x ++ drop 32 out) 32 p.greatest ≡ numbers_of p
 unfolding numbers_of
-numbers_are p out t n h =
-    let e : take 32 out ≡ p.taps =
-    ext_get_or 0 (take 32 out) p.taps (length-take-le 32 out (omega arith) ∙ sym t)
-    (λ j k.
-    let m : j < 32 = subst (λ (x : ℕ). j < x) (length-take-le 32 out (omega arith)) k in
-    get_or-take 32 out j 0 m ∙ h j m) in
-    let s : take 33 (set out 32 p.greatest) ≡ take 32 out ++ (p.greatest ∷ []) = take-suc-set out 32 p.greatest (omega arith) in
-    sym (take_all 33 (set out 32 p.greatest) (omega (arith, length-set out 32 p.greatest))) ∙ s ∙ ap (λ (x : List ℕ). x ++ (p.greatest ∷ [])) e
-
-module _ (l out : List ℕ) where
-  number_20 : profile_fault l ≡ true → first_of (profile_faults l out) ≡ 20
-  unfolding profile_faults
-  number_20 e = choose_true _ _ e
-
-  after_20 : profile_fault l ≡ false → first_of (profile_faults l out) ≡ choose (not (eqb (length out) 33)) 1 0
-  unfolding profile_faults
-  after_20 e = choose_false _ _ e
-
-  clear : profile_fault l ≡ false → profiled l ≡ record { refusal = 0; profile = profile_of (lent_fields l) (lent_sections l) }
-  unfolding profiled
-  clear f = choose_false _ _ f
-
-  found : profile_fault l ≡ true → profiled l ≡ record { refusal = 20; profile = no_profile }
-  unfolding profiled
-  found f = choose_true _ _ f
-
-  pub write_20 : (q : Profiled) → q ≡ profiled l → (q.refusal ≡ 0 → ⊥) → Is (profiling l out) 20 out
-  unfolding profiling
-  write_20 q e n =
-      refusal_leaves (first_of (profile_faults l out)) (numbers_of (profile_of (lent_fields l) (lent_sections l))) out (sym (number_20 (faulty (profile_fault l) refl))) (λ z. omega arith)
-    where
-      faulty : (t : Bool) → profile_fault l ≡ t → profile_fault l ≡ true
-      faulty true f = f
-      faulty false f = absurd (n (ap (λ (x : Profiled). x.refusal) (e ∙ clear f)))
-
-  clean : (q : Profiled) → q ≡ profiled l → q.refusal ≡ 0 → (t : Bool) → profile_fault l ≡ t → profile_fault l ≡ false
-  clean q e z false f = f
-  clean q e z true f = absurd (omega (arith, z, ap (λ (x : Profiled). x.refusal) (e ∙ found f)))
-
-  module _ (q : Profiled) (e : q ≡ profiled l) (z : q.refusal ≡ 0) where
-    sound : profile_fault l ≡ false
-    sound = clean q e z (profile_fault l) refl
-
-    pub write_1 : (length out ≡ 33 → ⊥) → Is (profiling l out) 1 out
-    unfolding profiling
-    write_1 n =
-        refusal_leaves (first_of (profile_faults l out)) (numbers_of (profile_of (lent_fields l) (lent_sections l))) out
-        (sym (after_20 sound ∙ choose_true _ _ (ap not (ne_eqb (length out) 33 n)))) (λ w. omega arith)
-
-    pub write_0 : length out ≡ 33 → (m : List ℕ) → m ≡ numbers_of q.profile → Is (profiling l out) 0 m
-    unfolding profiling
-    write_0 n m g =
-        acceptance_leaves (first_of (profile_faults l out)) (numbers_of (profile_of (lent_fields l) (lent_sections l))) out (after_20 sound ∙ choose_false _ _ (ap not (eq-eqb (length out) 33 n)))
-        (g ∙ ap (λ (x : Profiled). numbers_of x.profile) (e ∙ clear sound))
+numbers_are p out t n e =
+    ap₂ (λ (x y : List ℕ). set (x ++ y) 32 p.greatest) e (drop-cons out 32 0 (omega arith) ∙ ap (λ (y : List ℕ). get_or out 32 0 ∷ y) (drop_of_length-le out {i = 33} (omega arith)))
+    ∙ set_at p.taps (get_or out 32 0) [] p.greatest 32 t
 
 -- ---- and what is known of them
 

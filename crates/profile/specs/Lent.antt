@@ -1,7 +1,9 @@
 -- The profile of a pipe as it is lent, and what a call gives.
 -- Assumes nothing.
-use Rattle.std.specs.Prelude.{ℕ, ◌+◌, ◌*◌, Bool, not, List, [], ◌∷◌, ◌++◌, eqb, length, replicate}
+use Rattle.std.specs.Prelude.{ℕ, ◌+◌, ◌*◌, Bool, not, List, [], ◌∷◌, ◌++◌, eqb, length, replicate, Result, Ok, Err}
+use Rattle.ground.specs.declared.refusal.Refusal.{Refusal}
 use Rattle.ground.specs.Outcome.{Outcome}
+use Rattle.ground.specs.Refusals.{number}
 use Rattle.ground.specs.Choice.{choose, either, Fault, refuse, first_of, refusing}
 use Rattle.description.specs.Fields.{table16}
 use Rattle.description.specs.Description.{own_sections}
@@ -10,7 +12,6 @@ use Rattle.slots.specs.declared.Profile.{Profile}
 use Rattle.tap_lengths.specs.Lengths.{tap_total}
 use Rattle.tap_lengths.specs.Sections.{sections_at}
 use Rattle.profile.specs.Profile.{profile_of}
-use Rattle.profile.specs.declared.Profiled.{Profiled}
 
 -- the record, and the sections that the pipe owns
 unfoldable pub lent_fields : List ℕ → List ℕ
@@ -23,10 +24,19 @@ lent_sections l = sections_at (own_sections (lent_fields l)) l
 unfoldable pub profile_fault : List ℕ → Bool
 profile_fault l = either (not (eqb (length l) (6 + 2 * own_sections (lent_fields l)))) (not (eqb (tap_total (lent_sections l)) 32))
 
--- the profile, or 20 alone
+-- what is told of a pipe: 0 and its profile, or the number of its refusal and zeros
+pub record Profiled : Type 0 where
+  pub refusal : ℕ
+  pub profile : Profile
+
 abbrev pub no_profile : Profile
 no_profile = record { taps = replicate 32 0; greatest = 0 }
 
+abbrev pub told : Result Profile Refusal → Profiled
+told (Ok p) = record { refusal = 0; profile = p }
+told (Err e) = record { refusal = number e; profile = no_profile }
+
+-- the profile, or 20 alone
 unfoldable pub profiled : List ℕ → Profiled
 profiled l = choose (profile_fault l) (record { refusal = 20; profile = no_profile }) (record { refusal = 0; profile = profile_of (lent_fields l) (lent_sections l) })
 

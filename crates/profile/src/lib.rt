@@ -3,11 +3,12 @@
 
 ghost use Rattle.std.specs.Prelude.{◌≡◌, ◌≤◌, ◌<◌, length};
 ghost use Rattle.ground.specs.Outcome.{Is};
+ghost use Rattle.ground.specs.Refusals.{status};
 ghost use Rattle.tap_lengths.specs.Sections.{sections_at};
 ghost use Rattle.profile.specs.Profile.{tap_length_by, flipped, profile_of};
-ghost use Rattle.profile.specs.Lent.{lent_fields, profiled, numbers_of, profiling};
+ghost use Rattle.profile.specs.Lent.{lent_fields, told, profiled, numbers_of, profiling};
 
-use ground::{LENGTH_WRONG, PROFILE_WRONG};
+use ground::refusal::Refusal;
 use slots::Profile;
 
 // The bytes of a pipe's record (table 16), and of a section as it stands in a sheet.
@@ -20,14 +21,6 @@ const TAPS: u32 = 32;
 
 // The numbers of a profile that is handed out: 32 lengths and the greatest delay.
 const NUMBERS: usize = 33;
-
-// What comes of a pipe: its refusal, 0 for none, and its profile, all zeros where it is refused.
-#[repr(C)]
-#[derive(Clone, Copy)]
-pub struct Profiled {
-    pub refusal: u8,
-    pub profile: Profile,
-}
 
 // Tap_Length by the multipliers' fields: the fraction first, rounded down.
 fn tap_length(int: u32, fract: u32, len: u16) -> u16
@@ -42,10 +35,7 @@ fn flipped(inv: u32, k: usize) -> usize
     requires { k < 32 }
     ensures { (result ≡ flipped inv k) × (result < 32) }
 {
-    if inv == 0 {
-        return k;
-    }
-    31 - k
+    if inv == 0 { k } else { 31 - k }
 }
 
 // The profile of a pipe with n sections.
@@ -57,46 +47,26 @@ fn made(pipe: &[u8], n: u8) -> Profile
     let inv = bits::field(pipe, 24, 1);
     let int = bits::field(pipe, 36, 4);
     let fract = bits::field(pipe, 40, 4);
-    let mut p = Profile {
-        taps: [0u16; 32],
-        greatest: tap_length(int, fract, lens[31]),
-    };
-    let mut k: usize = 0;
-    while k < 32 {
+    let mut taps = [0; 32];
+    for (k, tap) in taps.iter_mut().enumerate() {
         let j = flipped(inv, k);
-        p.taps[k] = tap_length(int, fract, lens[8 * (j % 4) + j / 4]);
-        k += 1;
+        *tap = tap_length(int, fract, lens[8 * (j % 4) + j / 4]);
     }
-    p
+    Profile {
+        taps,
+        greatest: tap_length(int, fract, lens[31]),
+    }
 }
 
-// The profile of a pipe as it is lent.
-pub fn of(pipe: &[u8]) -> Profiled
-    ensures { result ≡ profiled pipe.now }
+// The profile of a pipe as it is lent, or why it has none.
+pub fn of(pipe: &[u8]) -> Result<Profile, Refusal>
+    ensures { told result ≡ profiled pipe.now }
 {
-    let n = records::pipe_at(pipe, 0, 0).d;
-    if pipe.len() != RECORD + SECTION * n as usize {
-        return Profiled {
-            refusal: PROFILE_WRONG,
-            profile: Profile {
-                taps: [0u16; 32],
-                greatest: 0,
-            },
-        };
+    let n = records::pipe_at(pipe, 0, 0).d as u8;
+    if pipe.len() != RECORD + SECTION * n as usize || tap_lengths::total(pipe, n) != TAPS {
+        return Err(Refusal::ProfileWrong);
     }
-    if tap_lengths::total(pipe, n as u8) != TAPS {
-        return Profiled {
-            refusal: PROFILE_WRONG,
-            profile: Profile {
-                taps: [0u16; 32],
-                greatest: 0,
-            },
-        };
-    }
-    Profiled {
-        refusal: 0,
-        profile: made(pipe, n as u8),
-    }
+    Ok(made(pipe, n))
 }
 
 // The profile's numbers into the lent ones.
@@ -104,25 +74,18 @@ fn put(p: Profile, out: &mut [u16])
     requires { length out.old ≡ 33 }
     ensures { out.new ≡ numbers_of p }
 {
-    let mut k: usize = 0;
-    while k < 32 {
-        out[k] = p.taps[k];
-        k += 1;
-    }
+    out[..32].copy_from_slice(&p.taps);
     out[32] = p.greatest;
 }
 
-// Writes the profile of a pipe into the lent numbers and returns 0; or returns why not, and leaves them as they were.
-pub fn write(pipe: &[u8], out: &mut [u16]) -> u8
-    ensures { Is (profiling pipe.now out.old) result out.new }
+// Writes the profile of a pipe into the lent numbers; or says why not, and leaves them as they were.
+pub fn write(pipe: &[u8], out: &mut [u16]) -> Result<(), Refusal>
+    ensures { Is (profiling pipe.now out.old) (status result) out.new }
 {
-    let p = of(pipe);
-    if p.refusal != 0 {
-        return PROFILE_WRONG;
-    }
+    let p = of(pipe)?;
     if out.len() != NUMBERS {
-        return LENGTH_WRONG;
+        return Err(Refusal::LengthWrong);
     }
-    put(p.profile, out);
-    0
+    put(p, out);
+    Ok(())
 }

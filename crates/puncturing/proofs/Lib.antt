@@ -1,3 +1,4 @@
 pub mod Packed
 pub mod Lanes
+pub mod Made
 pub mod Agree

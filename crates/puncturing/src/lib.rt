@@ -6,6 +6,8 @@ ghost use Rattle.patterns.specs.Rows.{digit};
 ghost use Rattle.puncturing.specs.Entries.{entries};
 ghost use Rattle.puncturing.specs.Inside.{spaced, entry_from};
 
+use std::array;
+
 // The data rows by pattern number. A group is five bits, X Y0 Y1 Y'0 Y'1; the row is repeated up to twelve groups, which every row's length divides.
 const DATA: [u64; 28] = [
     0b11111_11111_11111_11111_11111_11111_11111_11111_11111_11111_11111_11111, // 0: h
@@ -101,37 +103,21 @@ fn entry_from(row: u64, tail: u64, j: usize) -> u16
 pub fn entries(pattern: usize) -> [u16; 18]
     ensures { result ≡ entries pattern }
 {
-    let mut t = [0u16; 18];
-    if 27 < pattern {
-        return t;
-    }
-    // not in the loop: a table is laid out anew wherever it is named
-    let row = DATA[pattern];
-    let tail = TAIL[pattern];
-    let mut j = 0;
-    while j < 18 {
-        t[j] = entry_from(row, tail, j);
-        j += 1;
-    }
-    t
+    let row = DATA.get(pattern).copied().unwrap_or(0);
+    let tail = TAIL.get(pattern).copied().unwrap_or(0);
+    array::from_fn(|j| entry_from(row, tail, j))
 }
 
 // How often the symbol s of a group is sent, at the width of a count.
 pub fn wide_digit(group: usize, s: usize) -> usize
     ensures { result ≡ digit group s }
 {
-    if 4 < s {
-        return group % 8;
-    }
-    (group >> (3 * (4 - s))) % 8
+    (group >> (3 * 4usize.saturating_sub(s))) % 8
 }
 
 // How often the symbol s of a group is sent.
 pub fn digit(group: u16, s: usize) -> u8
     ensures { result ≡ digit group s }
 {
-    if 4 < s {
-        return (group % 8) as u8;
-    }
-    ((group >> (3 * (4 - s))) % 8) as u8
+    wide_digit(group as usize, s) as u8
 }

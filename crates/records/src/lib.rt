@@ -51,7 +51,7 @@ fn own(width: u32, count: u32) -> u16
 pub fn pipe_at(w: &[u8], at: u32, k: u8) -> Pipe
     ensures { result ≡ pipe_at w.now at k }
 {
-    let at = at as usize + 48 * k as usize;
+    let at = at as usize + views::PIPE as usize * k as usize;
     let width = bits::field(w, at + 6, 10);
     Pipe {
         pattern: bits::field(w, at, 6),

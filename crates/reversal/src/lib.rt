@@ -4,7 +4,7 @@
 ghost use Rattle.std.specs.Prelude.{◌≡◌};
 ghost use Rattle.order.specs.Order.{reversed};
 
-// Five bits, reversed (clause 4.4.4): bit k, which is v / 2^k less twice v / 2^(k + 1), goes to the place 4 - k.
+// Five bits, reversed (clause 4.4.4), by one formula and no method, as request 2026-03 has it: bit k, which is v / 2^k less twice v / 2^(k + 1), goes to the place 4 - k.
 pub fn reversed(x: usize) -> usize
     ensures { result ≡ reversed x }
 {

@@ -1,17 +1,17 @@
 -- Laws of a row's columns: where a place reads, six places, and a row by its sixes.
 -- Assumes nothing.
 use Prim.Native.Nat.{ℕ, zero, suc, ◌+◌, ◌*◌, ◌/◌, ◌%◌, ◌^◌, ◌≤◌, ◌<◌}
-use mathlib.Core.Path.{◌≡◌, refl, ap, ap₂, ◌∙◌}
-use mathlib.Core.Bool.{Bool}
-use mathlib.Core.List.{List}
+use mathlib.Core.Path.{◌≡◌, refl, sym, ap, subst, ap₂, ◌∙◌}
+use mathlib.Core.Bool.{Bool, true}
+use mathlib.Core.List.{List, [], ◌∷◌}
 use native.Mathlib.Nat.{mod-lt, mul-le-mul, mul-le-mul_right}
 use native.Mathlib.Omega.{arith}
-use lib.Dec.{T, eqb, leb, leb→le}
+use lib.Dec.{T, eqb, leb, leb→le, ltb, ltb→lt}
 use lib.ListN.{length, get_or}
 use borrow.Author.Tests.{eq-eqb, ne_eqb, lt-ltb, le-ltb}
 use Rattle.ground.specs.Choice.{choose, both}
 use Rattle.ground.specs.Table.{all_below}
-use Rattle.ground.proofs.Choice.{choose_true, choose_false}
+use Rattle.ground.proofs.Choice.{both_true, choose_true, choose_false}
 use Rattle.ground.proofs.Table.{at_all}
 use Rattle.bits.specs.Places.{number}
 use Rattle.bits.proofs.Places.{number_lt, number_append}
@@ -19,7 +19,7 @@ use Rattle.order.specs.Order.{parameter, reversed}
 use Rattle.order.specs.Rows.{row_address, column}
 use Rattle.pairs.specs.Pairs.{Paired}
 use Rattle.rows.specs.Spelt.{row_pair, digits, twice, both_of, rows_of}
-use Rattle.rows.specs.Inside.{Place, pair_at}
+use Rattle.rows.specs.Inside.{small}
 
 -- the columns that are read lie in the 24 segments
 inside : ℕ → Bool
@@ -33,33 +33,25 @@ pub segment_most : (t : ℕ) → t < 24 → reversed (column t) ≤ 23
 unfolding inside
 segment_most t h = leb→le (reversed (column t)) 23 (at_all inside 24 all_inside t h)
 
--- an earlier place of the same row
-pub place_before : (d : List ℕ) (size j t e t' e' : ℕ) → Place d size j t e → t' ≤ t → e' < 512 → Place d size j t' e'
-place_before d size j t e t' e' p h k = record { len = p.len; some = p.some; most = p.most; row = p.row; inside = omega (arith, p.inside); small = k }
-
-pub product_fits : (d : List ℕ) (size j t e : ℕ) → Place d size j t e → j * e ≤ 262144
-product_fits d size j t e p =
-    let row : j ≤ 512 = omega (arith, p.row) in
-    let small : e ≤ 512 = omega (arith, p.small) in
-    mul-le-mul row small
-
-module _ (d : List ℕ) (size j t e r : ℕ) (p : Place d size j t e) (er : r ≡ reversed (column t)) where
+module _ (size t r : ℕ) (some : 0 < size) (most : size ≤ 512) (h : t < 24) (e : r ≡ reversed (column t)) where
   segment_lt : r ≤ 23
-  segment_lt = omega (arith, er, segment_most t p.inside)
+  segment_lt = omega (arith, e, segment_most t h)
 
   pub segment_fits : r * size ≤ 11776
-  segment_fits = mul-le-mul segment_lt p.most
+  segment_fits = mul-le-mul segment_lt most
 
   pub column_fits : (x : ℕ) → r * size + x % size < 18446744073709551616
-  column_fits x = omega (arith, segment_fits, mod-lt x p.some, p.most)
+  column_fits x = omega (arith, segment_fits, mod-lt x some)
 
-  pub place_in : (x : ℕ) → r * size + x % size < length d
-  place_in x = omega (arith, mul-le-mul_right size segment_lt, mod-lt x p.some, p.len)
+  pub place_in : (x : ℕ) → r * size + x % size < 24 * size
+  place_in x = omega (arith, mul-le-mul_right size segment_lt, mod-lt x some)
 
-  -- the pair that is read there
-  pub pair_is : (x : ℕ) → x ≡ get_or d (r * size + j * e % size) 0 → x ≡ pair_at d size j t e
-  unfolding pair_at
-  pair_is x ex = ex ∙ ap (λ (y : ℕ). get_or d (y * size + j * e % size) 0) er
+-- ---- six places
+-- the entries are below 512
+pub small_at : (es : List ℕ) → small es ≡ true → (i : ℕ) → get_or es i 0 < 512
+small_at [] h i = omega arith
+small_at (e ∷ es) h zero = ltb→lt e 512 (subst T (sym (both_true (ltb e 512) (small es) h).0) tt)
+small_at (e ∷ es) h (suc i) = small_at es (both_true (ltb e 512) (small es) h).1 i
 
 -- the number of six places, by their pairs
 pub six_is : (f : ℕ → ℕ) (a b c d e g : ℕ) → a ≡ f 0 → b ≡ f 1 → c ≡ f 2 → d ≡ f 3 → e ≡ f 4 → g ≡ f 5

@@ -1,17 +1,14 @@
 -- What functions inside this crate ask and promise; no public promise leads here.
 -- Assumes nothing.
-use Rattle.std.specs.Prelude.{ℕ, ◌+◌, ◌*◌, ◌%◌, ◌≤◌, ◌<◌, ◌≡◌, List, length, get_or}
+use Rattle.std.specs.Prelude.{ℕ, ◌+◌, ◌*◌, ◌%◌, Bool, true, List, [], ◌∷◌, ltb, get_or}
+use Rattle.ground.specs.Choice.{both}
 use Rattle.order.specs.Order.{reversed}
 use Rattle.order.specs.Rows.{column}
 
--- what reading at a place of a row asks
-pub record Place (d : List ℕ) (size j t e : ℕ) : Type 0 where
-  pub len : length d ≡ 24 * size
-  pub some : 0 < size
-  pub most : size ≤ 512
-  pub row : j < 512
-  pub inside : t < 24
-  pub small : e < 512
+-- entries of table 10 are below 512
+abbrev pub small : List ℕ → Bool
+small [] = true
+small (e ∷ es) = both (ltb e 512) (small es)
 
 -- the pair at the place t of the row j, by the entry e of table 10
 unfoldable pub pair_at : List ℕ → ℕ → ℕ → ℕ → ℕ → ℕ

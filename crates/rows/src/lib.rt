@@ -2,45 +2,52 @@
 // that row too.
 #![tactic(auto)]
 
-ghost use Rattle.std.specs.Prelude.{◌≡◌, [], ◌∷◌, ◌+◌, ◌<◌};
+ghost use Rattle.std.specs.Prelude.{◌≡◌, ◌+◌, ◌*◌, ◌<◌, ◌≤◌, length, IsTrue};
 ghost use Rattle.bits.specs.Places.{number};
 ghost use Rattle.rows.specs.Spelt.{digits, twice, rows_of};
-ghost use Rattle.rows.specs.Inside.{Place, pair_at, six_of};
+ghost use Rattle.rows.specs.Inside.{small, pair_at, six_of};
 
-fn wide(x: u8) -> u64
-    ensures { (result ≡ x) × (result < 256) }
-{
-    x as u64
-}
+// the segments of a block
+const SEGMENTS: usize = 24;
+// a segment has as many pairs as the block has rows
+const PAYLOAD_ROWS: usize = 512;
 
-// The pair at the place t of the row j, by an entry of table 10. The counter's low numbers that end in two ones give addresses behind the block and are passed over.
-fn pair(d: &[u8], size: usize, j: usize, t: usize, entry: usize) -> u64
-    requires { Place d.now size j t entry }
-    ensures { (result ≡ pair_at d.now size j t entry) × (result < 256) }
-{
-    wide(d[reversal::reversed(t + t / 3) * size + j * entry % size])
-}
+const SIGNALLING_ROWS: usize = 32;
+// of two rows of 24 bits in a number, the second stands above 32 bits
+const SECOND: u64 = 1 << 32;
 
-// The pairs at six places from t on: their first bits spell six bits of a row, and their second bits those of the row that is read with it.
-fn six(
-    d: &[u8],
+// A row of a block in pairs, of 24 segments of `size` pairs each.
+#[derive(Drop)]
+struct Row<'a> {
+    d: &'a [u8],
     size: usize,
     j: usize,
-    t: usize,
-    e0: usize,
-    e1: usize,
-    e2: usize,
-    e3: usize,
-    e4: usize,
-    e5: usize,
-) -> u64
-    requires { Place d.now size j (t + 5) e5 × (e0 < 512) × (e1 < 512) × (e2 < 512) × (e3 < 512) × (e4 < 512) }
-    ensures { (result ≡ number (six_of d.now size j t (e0 ∷ e1 ∷ e2 ∷ e3 ∷ e4 ∷ e5 ∷ [])) 0 6) × (result < 16384) }
-{
-    let a = (pair(d, size, j, t, e0) * 2 + pair(d, size, j, t + 1, e1)) * 2
-        + pair(d, size, j, t + 2, e2);
-    ((a * 2 + pair(d, size, j, t + 3, e3)) * 2 + pair(d, size, j, t + 4, e4)) * 2
-        + pair(d, size, j, t + 5, e5)
+    ghost len: { length d.now ≡ 24 * size },
+    ghost some: { 0 < size },
+    ghost most: { size ≤ 512 },
+    ghost row: { j < 512 },
+}
+
+impl Row<'_> {
+    // The pair at the place t, by an entry of table 10. The counter's low numbers that end in two ones give addresses behind the block and are passed over.
+    fn pair(&self, t: usize, entry: usize) -> u64
+        requires { (t < 24) × (entry < 512) }
+        ensures { (result ≡ pair_at self.now.d.now self.now.size self.now.j t entry) × (result < 256) }
+    {
+        u64::from(self.d[reversal::reversed(t + t / 3) * self.size + self.j * entry % self.size])
+    }
+
+    // The pairs at six places from t on: their first bits spell six bits of the row, and their second bits those of the row that is read with it.
+    // A loop over the six is not unrolled, and makes a block four times as slow.
+    fn six(&self, t: usize, entries: [usize; 6]) -> u64
+        requires { (t + 6 ≤ 24) × IsTrue (small entries) }
+        ensures { (result ≡ number (six_of self.now.d.now self.now.size self.now.j t entries) 0 6) × (result < 16384) }
+    {
+        let a = (self.pair(t, entries[0]) * 2 + self.pair(t + 1, entries[1])) * 2
+            + self.pair(t + 2, entries[2]);
+        ((a * 2 + self.pair(t + 3, entries[3])) * 2 + self.pair(t + 4, entries[4])) * 2
+            + self.pair(t + 5, entries[5])
+    }
 }
 
 // Four digits in base 64.
@@ -56,7 +63,7 @@ fn two(a: u64, b: u64, c: u64, d: u64) -> u64
     requires { (a < 16384) × (b < 16384) × (c < 16384) × (d < 16384) }
     ensures { result ≡ twice a b c d }
 {
-    joined(a / 64, b / 64, c / 64, d / 64) * 4294967296 + joined(a % 64, b % 64, c % 64, d % 64)
+    joined(a / 64, b / 64, c / 64, d / 64) * SECOND + joined(a % 64, b % 64, c % 64, d % 64)
 }
 
 // What the pairs of the row j of a block of n bits spell, and above 32 bits the row half of all rows on, by table 10's entries for n = 9 and n = 5. It is 0 for a row from 512 on, and of
@@ -64,28 +71,37 @@ fn two(a: u64, b: u64, c: u64, d: u64) -> u64
 pub fn rows_of(n: usize, d: &[u8], j: usize) -> u64
     ensures { result ≡ rows_of n d.now j }
 {
-    if 512 <= j {
+    if PAYLOAD_ROWS <= j {
         return 0;
     }
     if n == ground::PAYLOAD_BLOCK {
-        if d.len() == 12288 {
-            return two(
-                six(d, 512, j, 0, 13, 335, 87, 15, 1, 333),
-                six(d, 512, j, 6, 13, 1, 121, 1, 175, 421),
-                six(d, 512, j, 12, 509, 215, 47, 295, 229, 427),
-                six(d, 512, j, 18, 409, 387, 193, 501, 313, 489),
-            );
+        if d.len() != SEGMENTS * PAYLOAD_ROWS {
+            return 0;
         }
+        let row = Row {
+            d,
+            size: PAYLOAD_ROWS,
+            j,
+        };
+        return two(
+            row.six(0, [13, 335, 87, 15, 1, 333]),
+            row.six(6, [13, 1, 121, 1, 175, 421]),
+            row.six(12, [509, 215, 47, 295, 229, 427]),
+            row.six(18, [409, 387, 193, 501, 313, 489]),
+        );
+    }
+    if d.len() != SEGMENTS * SIGNALLING_ROWS {
         return 0;
     }
-    if d.len() == 768 {
-        two(
-            six(d, 32, j, 0, 27, 3, 1, 13, 17, 23),
-            six(d, 32, j, 6, 9, 3, 15, 13, 1, 13),
-            six(d, 32, j, 12, 21, 19, 1, 29, 17, 25),
-            six(d, 32, j, 18, 9, 13, 23, 13, 1, 13),
-        )
-    } else {
-        0
-    }
+    let row = Row {
+        d,
+        size: SIGNALLING_ROWS,
+        j,
+    };
+    two(
+        row.six(0, [27, 3, 1, 13, 17, 23]),
+        row.six(6, [9, 3, 15, 13, 1, 13]),
+        row.six(12, [21, 19, 1, 29, 17, 25]),
+        row.six(18, [9, 13, 23, 13, 1, 13]),
+    )
 }

@@ -1,11 +1,12 @@
--- What an answer with counts says of the tests behind it.
+-- What an answer with counts says of the tests behind it, and a test in front of others.
 -- Assumes nothing.
 use Prim.Native.Nat.{ℕ}
-use mathlib.Core.Path.{◌≡◌, ap}
+use mathlib.Core.Path.{◌≡◌, refl, ap, ◌∙◌}
+use mathlib.Core.Bool.{Bool, true, false}
 use mathlib.Core.List.{List, [], ◌∷◌}
 use lib.ListN.{get_or}
 use Rattle.ground.specs.Outcome.{Told}
-use Rattle.ground.specs.Choice.{Fault, first_of, verdict}
+use Rattle.ground.specs.Choice.{choose, Fault, first_of, verdict}
 use Rattle.ground.proofs.Answers.{accepted_with, accepted_with_lem}
 
 -- an acceptance
@@ -28,3 +29,11 @@ counted_found l x y z e =
       streams = ap (λ (k : List ℕ). get_or k 1 0) f.1;
       sections = ap (λ (k : List ℕ). get_or k 2 0) f.1;
     }
+
+-- a test, and what is behind it where it finds nothing
+pub behind : {A : Type 0} {a b : Bool} {y z : A} (x : A) → a ≡ b → (a ≡ false → y ≡ z) → choose a x y ≡ choose b x z
+behind {a = a} {b} {y} {z} x e f = by_case a f ∙ ap (λ (c : Bool). choose c x z) e
+  where
+    by_case : (c : Bool) → (c ≡ false → y ≡ z) → choose c x y ≡ choose c x z
+    by_case true g = refl
+    by_case false g = g refl

@@ -1,4 +1,5 @@
 pub mod Owning
 pub mod Told
 pub mod Found
+pub mod Bytes
 pub mod Agree

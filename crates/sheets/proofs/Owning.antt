@@ -6,19 +6,17 @@ use mathlib.Core.List.{List, [], ◌∷◌, ◌++◌}
 use native.Mathlib.Nat.{mul-le-mul_left, mul-le-mul_right}
 use native.Mathlib.Numerals.{add-one}
 use native.Mathlib.Omega.{arith}
-use borrow.Author.Tests.{eq-eqb, ne_eqb}
 use Rattle.ground.specs.Table.{tab}
-use Rattle.ground.proofs.Choice.{choose_true, choose_false}
 use Rattle.bits.proofs.Places.{field_lt}
 use Rattle.description.specs.Rows.{Row, total}
-use Rattle.description.specs.Fields.{table16, table16b, tail_width}
-use Rattle.description.specs.Description.{own_streams, own_sections, tail_owns}
+use Rattle.description.specs.Fields.{table16, table16b}
+use Rattle.description.specs.Description.{own_streams, own_sections}
 use Rattle.description.proofs.Bounds.{own_bounds, tail_bound}
 use Rattle.views.specs.Rows.{row_from, row_at, rows_at}
 use Rattle.views.specs.declared.View.{View}
 use Rattle.views.proofs.Rows.{Narrow, rows_more}
 use Rattle.views.proofs.Lists.{table16_narrow}
-use Rattle.records.specs.Records.{pipe_of, pipe_at, tail_at}
+use Rattle.records.specs.Records.{pipe_of, pipe_at}
 use Rattle.records.specs.declared.Pipe.{Pipe}
 use Rattle.sheets.specs.Owned.{owned_at, tail_owned_at, places_at}
 use Rattle.sheets.specs.declared.owned.Share.{Share}
@@ -82,14 +80,6 @@ module _ (w : List ℕ) (at : ℕ) where
   -- the bounds alone, of what was read
   pub pipe_small : (k : ℕ) (q : Pipe) → q ≡ pipe_at w at k → (q.s ≤ 32) × (q.d ≤ 8)
   pipe_small k q e = subst (λ (z : Pipe). (z.s ≤ 32) × (z.d ≤ 8)) (sym e) (pipe_owns k)
-
-  pub tail_none : {x : ℕ} → x ≡ tail_at w at → x ≡ 0 → 0 ≡ tail_owned_at w at
-  unfolding tail_at tail_owned_at tail_owns
-  tail_none e z = sym (choose_true _ _ (eq-eqb (tail_width (row_at table16b w at)) 0 (sym e ∙ z)))
-
-  pub tail_some : {x : ℕ} → x ≡ tail_at w at → (x ≡ 0 → ⊥) → 1 ≡ tail_owned_at w at
-  unfolding tail_at tail_owned_at tail_owns
-  tail_some e z = sym (choose_false _ _ (ne_eqb (tail_width (row_at table16b w at)) 0 (λ q. z (e ∙ q))))
 
 -- ---- how much it can be
 sums : (w : List ℕ) (at p : ℕ) → ((owned_at w at p).s ≤ 32 * p) × ((owned_at w at p).d ≤ 8 * p)

@@ -1,16 +1,15 @@
 -- What an answer tells is one_to_one: the number and the values determine the answer.
 -- Assumes nothing.
-use mathlib.Core.Path.{◌≡◌, ap}
-use native.Mathlib.Omega.{arith}
-use lib.ListN.{get_or}
+use Rattle.std.proofs.Common.{◌≡◌, ap, Result, Ok, Err, get_or, arith}
+use Rattle.ground.specs.declared.refusal.Refusal.{Refusal}
 use Rattle.ground.proofs.Outcome.{values_length}
+use Rattle.ground.proofs.Refusals.{number_same}
+use Rattle.views.specs.declared.Counts.{Counts}
 use Rattle.sheets.specs.Answers.{told}
-use Rattle.sheets.specs.declared.answer.Answer.{Answer}
-use Rattle.sheets.specs.declared.answer.Answer.TheVariants.{Accepted, Refused}
 
-pub told_one : (r r' : Answer) → told r ≡ told r' → r ≡ r'
-told_one (Accepted p s d) (Accepted p' s' d') e =
-    λ i. Accepted (ap (λ t. get_or t.values 0 0) e i) (ap (λ t. get_or t.values 1 0) e i) (ap (λ t. get_or t.values 2 0) e i)
-told_one (Accepted p s d) (Refused n) e = absurd (omega (arith, values_length e))
-told_one (Refused n) (Accepted p s d) e = absurd (omega (arith, values_length e))
-told_one (Refused n) (Refused m) e = ap (λ t. Refused t.number) e
+pub told_one : (r r' : Result Counts Refusal) → told r ≡ told r' → r ≡ r'
+told_one (Ok c) (Ok c') e =
+    λ i. Ok (record { p = ap (λ t. get_or t.values 0 0) e i; s = ap (λ t. get_or t.values 1 0) e i; d = ap (λ t. get_or t.values 2 0) e i })
+told_one (Ok c) (Err f) e = absurd (omega (arith, values_length e))
+told_one (Err f) (Ok c) e = absurd (omega (arith, values_length e))
+told_one (Err f) (Err g) e = ap (λ (x : Refusal). Err x) (number_same (ap (λ t. t.number) e))

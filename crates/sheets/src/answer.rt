@@ -1,20 +1,16 @@
-// What is said of a word or of a sheet that was judged.
+// What is said of a word or of a sheet that was judged: the counts of its lists, or the refusal.
 ghost use Rattle.std.specs.Prelude.{◌≡◌};
 ghost use Rattle.sheets.specs.Answers.{told};
 
-// The counts of its lists, or the number of the refusal.
-#[derive(Clone, Copy)]
-pub enum Answer {
-    Accepted { p: u8, s: u16, d: u16 },
-    Refused(u8),
-}
+use ground::refusal::Refusal;
+use views::Counts;
 
-// The number of an answer, 0 where it accepts.
-pub fn number(answer: Answer) -> u8
+// The number of an answer, 0 where it accepts. It stands beside ground's `status` since its promise does.
+pub fn number(answer: Result<Counts, Refusal>) -> u8
     ensures { result ≡ (told answer).number }
 {
     match answer {
-        Answer::Accepted { p: _, s: _, d: _ } => 0,
-        Answer::Refused(n) => n,
+        Ok(_) => 0,
+        Err(refusal) => refusal.number(),
     }
 }

@@ -16,14 +16,12 @@ pub struct Share {
 pub fn owned_at(w: &[u8], at: u32, p: u8) -> Share
     ensures { result ≡ owned_at w.now at p }
 {
-    let mut s: u16 = 0;
-    let mut d: u16 = 0;
-    let mut i: u8 = 0;
-    while i < p {
+    let mut s = 0;
+    let mut d = 0;
+    for i in 0..p {
         let pipe = pipe_at(w, at, i);
         s += pipe.s;
         d += pipe.d;
-        i += 1;
     }
     Share { s, d }
 }
@@ -32,10 +30,7 @@ pub fn owned_at(w: &[u8], at: u32, p: u8) -> Share
 pub fn tail_owned_at(w: &[u8], at: u32) -> u16
     ensures { result ≡ tail_owned_at w.now at }
 {
-    if tail_at(w, at) == 0 {
-        return 0;
-    }
-    1
+    u16::from(tail_at(w, at) != 0)
 }
 
 // Where the record, the streams and the sections of a pipe stand.

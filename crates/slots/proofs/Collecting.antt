@@ -1,11 +1,11 @@
 -- The unit that the collector reads for a place, as one number.
 -- Assumes nothing.
-use Prim.Native.Nat.{ℕ, ◌+◌, ◌*◌, ◌/◌, ◌%◌, ◌≤◌, ◌<◌}
+use Prim.Native.Nat.{ℕ, ◌+◌, ◌*◌, ◌/◌, ◌%◌, ◌<◌}
 use mathlib.Core.Path.{◌≡◌, refl, sym, ◌∙◌, subst}
 use mathlib.Core.Bool.{Bool, true, false}
-use native.Mathlib.Nat.{mod-lt, div-add-mod', div-le_self, mul-le-mul}
+use native.Mathlib.Nat.{div-add-mod'}
 use native.Mathlib.Omega.{arith}
-use borrow.Author.Tests.{eq-eqb, ne_eqb}
+use borrow.Author.Tests.{ne_eqb}
 use lib.Dec.{eqb}
 use Rattle.ground.specs.Choice.{choose}
 use Rattle.ground.proofs.Choice.{choose_true, choose_false, hit, skip}
@@ -14,29 +14,6 @@ use Rattle.slots.specs.Slots.{frame_units}
 use Rattle.slots.specs.Collector.{slot_at, unit_at, unit_for}
 use Rattle.slots.proofs.Places.{in_table, across}
 use Rattle.slots.proofs.Collector.{collected_once}
-
-module _ (regrouping slots units place : ℕ) where
-  pub for_off : regrouping ≡ 0 → place ≡ unit_for regrouping slots units place
-  unfolding unit_for
-  for_off e = sym (choose_true _ _ (hit (eqb slots 0) (eq-eqb regrouping 0 e)))
-
-  pub for_none : (regrouping ≡ 0 → ⊥) → slots ≡ 0 → place ≡ unit_for regrouping slots units place
-  unfolding unit_for
-  for_none n e = sym (choose_true _ _ (skip (ne_eqb regrouping 0 n) (eq-eqb slots 0 e)))
-
-  pub for_on : (regrouping ≡ 0 → ⊥) → (slots ≡ 0 → ⊥) → place % slots * units + place / slots ≡ unit_for regrouping slots units place
-  unfolding unit_for
-  for_on n m = sym (choose_false _ _ (skip (ne_eqb regrouping 0 n) (ne_eqb slots 0 m)))
-
-  -- no number on the way is too great
-  pub across_small : 0 < slots → slots < 65536 → units < 256 → place % slots * units + place / slots ≤ 16777216 + place
-  across_small p s u =
-      let r : place % slots < slots = mod-lt place p in
-      let a : place % slots ≤ 65536 = omega arith in
-      let b : units ≤ 256 = omega arith in
-      let m : place % slots * units ≤ 65536 * 256 = mul-le-mul a b in
-      let d : place / slots ≤ place = div-le_self place slots in
-      omega arith
 
 -- inside a frame it is the unit of the slot that the collector reads
 module _ (y : Way) (j : ℕ) (h : j < frame_units y) where

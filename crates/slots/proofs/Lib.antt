@@ -1,4 +1,5 @@
 pub mod Places
+pub mod Mapped
 pub mod Delays
 pub mod Collector
 pub mod Collecting

@@ -28,28 +28,19 @@ pub struct Way {
 pub fn tap_delays(p: Profile) -> [u16; 32]
     ensures { result ≡ tab (tap_delay p) 0 32 }
 {
-    let mut delays = [0u16; 32];
-    let mut k: usize = 0;
-    while k < 32 {
-        let t = p.taps[k];
-        let g = p.greatest;
-        delays[k] = if t <= g { g - t } else { 0 };
-        k += 1;
-    }
-    delays
+    p.taps.map(|t| p.greatest.saturating_sub(t))
 }
 
 // The unit of a frame of mixed codewords, counted over all slots, that is read for a place of the pipe's frame.
+// It takes the three numbers of a way that it looks at, and asks for no profile.
 pub fn unit_for(regrouping: u8, slots: u16, units: u8, place: u32) -> usize
     ensures { result ≡ unit_for regrouping slots units place }
 {
     let n = slots as usize;
     let j = place as usize;
-    if regrouping == 0 {
-        return j;
+    if regrouping == 0 || n == 0 {
+        j
+    } else {
+        j % n * units as usize + j / n
     }
-    if n == 0 {
-        return j;
-    }
-    j % n * units as usize + j / n
 }

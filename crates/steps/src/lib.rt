@@ -1,5 +1,5 @@
-// The steps of a walk over a word, on a slice and on numbers: the reader's methods only take it apart. Each is total; the counts of a word are far below where
-// one wraps.
+// The steps of a walk over a word, on a slice and on numbers. They are no methods: 01 asks for a reader whose methods are thin and for arithmetic in plain
+// functions, and each step has a promise of its own. Each is total; the counts of a word are far below where one wraps.
 #![tactic(auto)]
 
 ghost use Rattle.std.specs.Prelude.{◌≡◌, ◌%◌};
@@ -34,7 +34,7 @@ pub fn owned_by(word: &[u8], at: u32, p: u16) -> Share
 pub fn onward(at: u32, n: u16, width: u32) -> u32
     ensures { result ≡ onward_of at n width }
 {
-    ((at as u64 + n as u64 * width as u64) % 4294967296) as u32
+    at.wrapping_add(u32::from(n).wrapping_mul(width))
 }
 
 // What all pipes own: streams of the payload pipes and of the tail pipe, which owns no section (clause 4.10.8).
@@ -42,7 +42,7 @@ pub fn with_tail(own: Share, tail: u16) -> Share
     ensures { result ≡ with_tail own tail }
 {
     Share {
-        s: ((own.s as u32 + tail as u32) % 65536) as u16,
+        s: own.s.wrapping_add(tail),
         d: own.d,
     }
 }

@@ -1,3 +1,2 @@
-pub mod Walks
 pub mod Surveys
 pub mod Agree

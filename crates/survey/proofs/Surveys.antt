@@ -1,6 +1,6 @@
 -- What each test of a word finds, as it is read, and what the tests up to it say together.
 -- Assumes nothing.
-use Prim.Native.Nat.{ℕ, suc, ◌+◌, ◌*◌, ◌≤◌, ◌<◌}
+use Prim.Native.Nat.{ℕ, suc, ◌+◌, ◌-◌, ◌*◌, ◌≤◌, ◌<◌}
 use mathlib.Core.Path.{◌≡◌, refl, sym, ap, ap₂, ◌∙◌}
 use mathlib.Core.Bool.{Bool, true, false, not}
 use mathlib.Core.List.{List, [], ◌∷◌}
@@ -9,12 +9,16 @@ use native.Mathlib.Omega.{arith}
 use lib.Dec.{eqb, ltb}
 use lib.ListN.{length, take, drop}
 use lib.Seq.{slice, take_all}
-use borrow.Author.Tests.{eq-eqb, ne_eqb, lt-ltb}
-use Rattle.ground.specs.Choice.{choose, Fault, refuse, first_of}
-use Rattle.ground.proofs.Choice.{first_clear, first_found, fault_at, next_clear, next_found, found_above}
-use Rattle.ground.proofs.Answers.{refused_by, accepted_with, verdict_accepted, verdict_refused}
+use borrow.Author.Tests.{eq-eqb, ne_eqb, lt-ltb, ltb-false}
+use Rattle.ground.specs.Choice.{choose, Fault, refuse, first_of, verdict}
+use Rattle.ground.specs.Outcome.{Told}
+use Rattle.ground.proofs.Choice.{choose_false, no_difference, first_clear, first_found}
+use Rattle.ground.proofs.Answers.{refused_by, accepted_with, verdict_refused}
+use Rattle.sheets.proofs.Found.{counted, behind}
 use Rattle.bits.specs.Lists.{num, unpack}
-use Rattle.bits.specs.Places.{field_at}
+use Rattle.bits.specs.Places.{bit_at, field_at}
+use Rattle.ground.specs.Table.{tab}
+use Rattle.std.proofs.lemmas.List.{drop-take}
 use Rattle.bits.proofs.Lists.{unpack_length}
 use Rattle.bits.proofs.Joined.{field_num, run_unpack}
 use Rattle.crc.specs.Crc.{crc_of, crc12_of}
@@ -23,9 +27,9 @@ use Rattle.description.specs.Fields.{table15, table16, table16b, num_pipes1}
 use Rattle.description.specs.Description.{own_streams, own_sections, tail_owns, stream_count, section_count}
 use Rattle.description.specs.Rules.{size}
 use Rattle.description.specs.Tests.{version_fault, lists_fault, any_set, list_faults}
-use Rattle.description.specs.Word.{multiplex_in, p_in, pipes_in, tail_in, s_in, d_in, spare_fault, crc_fault, padding_fault, word_faults, surveyed}
+use Rattle.description.specs.Word.{multiplex_in, p_in, pipes_in, tail_in, s_in, d_in, spare_fault, crc_fault, padding_fault, word_faults, lists_in, surveyed}
 use Rattle.views.specs.Rows.{row_at, rows_at}
-use Rattle.views.specs.View.{word_view, lists_at}
+use Rattle.views.specs.View.{word_view}
 use Rattle.views.specs.declared.View.{View}
 use Rattle.views.proofs.Rows.{row_is, rows_are}
 use Rattle.views.proofs.Lists.{table15_narrow, table16_narrow, table16b_narrow, lists_in_lem}
@@ -35,15 +39,19 @@ use Rattle.walk.specs.Tour.{p_of, s_of, d_of, tour_of}
 use Rattle.walk.specs.declared.Toured.{Toured}
 use Rattle.survey.specs.Survey.{surveyed_word}
 
+-- the bits from one place up to another
+pub bits_between : (w : List ℕ) (from to : ℕ) → from ≤ to → to ≤ 8 * length w → tab (bit_at w) from (to - from) ≡ slice from to (unpack w)
+bits_between w from to h k =
+    let e : from + (to - from) ≡ to = omega arith in
+    run_unpack w from (to - from) (omega arith) ∙ sym (drop-take from (to - from) (unpack w)) ∙ ap (λ (i : ℕ). drop from (take i (unpack w))) e
+
 module _ (w : List ℕ) (n : length w ≡ 96) where
   long : length (unpack w) ≡ 768
   long = unpack_length w ∙ omega arith
 
-  -- from where and up to where a bit is looked for comes by itself, so that another place is told from these by one comparison
-  pub spare_is : {r : Bool} {from to : ℕ} → r ≡ any_set (slice from to (unpack w)) → from ≡ 762 → to ≡ 768 → spare_fault (unpack w) ≡ r
+  spare_is : spare_fault (unpack w) ≡ any_set (slice 762 768 (unpack w))
   unfolding spare_fault
-  spare_is e f t =
-      sym (e ∙ ap₂ (λ (a z : ℕ). any_set (slice a z (unpack w))) f t ∙ ap (λ (b : List ℕ). any_set (drop 762 b)) (take_all 768 (unpack w) (omega (arith, long))))
+  spare_is = sym (ap (λ (b : List ℕ). any_set (drop 762 b)) (take_all 768 (unpack w) (omega (arith, long))))
 
   sent_is : field_at w 750 12 ≡ num (take 12 (drop 750 (unpack w)))
   sent_is = field_num w 750 12 (omega arith) (omega arith)
@@ -52,9 +60,9 @@ module _ (w : List ℕ) (n : length w ≡ 96) where
   unfolding crc12_of
   sum_is = ap (crc_of 12 0x80F) (run_unpack w 0 750 (omega arith))
 
-  pub crc_is : {x y : ℕ} → x ≡ field_at w 750 12 → y ≡ crc12_of w 0 750 → crc_fault (unpack w) ≡ not (eqb x y)
+  crc_is : crc_fault (unpack w) ≡ not (eqb (field_at w 750 12) (crc12_of w 0 750))
   unfolding crc_fault
-  crc_is e f = ap₂ (λ (a b : ℕ). not (eqb a b)) (sym (e ∙ sent_is)) (sym (f ∙ sum_is))
+  crc_is = ap₂ (λ (a b : ℕ). not (eqb a b)) (sym sent_is) (sym sum_is)
 
   -- ---- what the walk finds
   multiplex_is : row_at table15 w 0 ≡ multiplex_in (unpack w)
@@ -87,70 +95,82 @@ module _ (w : List ℕ) (n : length w ≡ 96) where
   fifteen : (s d : ℕ) → 14 < p_of w → 750 < size (p_of w) s d
   fifteen s d h = omega arith
 
-  module _ (t : Toured) (e : t ≡ tour_of w) where
-    pub version_is : version_fault (multiplex_in (unpack w)) ≡ not (eqb t.version 0)
-    unfolding version_fault tour_of
-    version_is = ap version_fault (sym multiplex_is) ∙ ap (λ (x : Toured). not (eqb x.version 0)) (sym e)
+  version_is : version_fault (multiplex_in (unpack w)) ≡ not (eqb (tour_of w).version 0)
+  unfolding version_fault tour_of
+  version_is = ap version_fault (sym multiplex_is)
 
-    end_is : t.end ≡ size (p_of w) (s_of w) (d_of w)
-    unfolding tour_of
-    end_is = ap (λ (x : Toured). x.end) e
+  -- 15 payload pipes alone are too many, whatever stands behind them
+  lists_are : lists_fault (p_in (unpack w)) (s_in (unpack w)) (d_in (unpack w)) ≡ ltb 750 (tour_of w).end
+  unfolding lists_fault tour_of
+  lists_are =
+      elim (dec_lt 14 (p_of w)) [
+        | yes h ↦ lt-ltb 750 (size (p_in (unpack w)) (s_in (unpack w)) (d_in (unpack w))) (omega (arith, fifteen (s_in (unpack w)) (d_in (unpack w)) h, p_is)) ∙ sym (lt-ltb 750 (size (p_of w) (s_of w) (d_of w)) (fifteen (s_of w) (d_of w) h))
+        | no h ↦ (
+            let few : p_of w ≤ 14 = omega arith in
+            sym (λ i. ltb 750 (size (p_is i) (s_is few i) (d_is few i))))
+      ]
 
-    -- 15 payload pipes alone are too many, whatever stands behind them
-    pub lists_are : lists_fault (p_in (unpack w)) (s_in (unpack w)) (d_in (unpack w)) ≡ ltb 750 t.end
-    unfolding lists_fault
-    lists_are =
+  module _ (fits : size (p_of w) (s_of w) (d_of w) ≤ 750) where
+    few : p_of w ≤ 14
+    few =
         elim (dec_lt 14 (p_of w)) [
-          | yes h ↦ lt-ltb 750 (size (p_in (unpack w)) (s_in (unpack w)) (d_in (unpack w))) (omega (arith, fifteen (s_in (unpack w)) (d_in (unpack w)) h, p_is)) ∙ sym (lt-ltb 750 t.end (omega (arith, end_is, fifteen (s_of w) (d_of w) h)))
-          | no h ↦ (
-              let few : p_of w ≤ 14 = omega arith in
-              sym (ap (ltb 750) end_is ∙ (λ i. ltb 750 (size (p_is i) (s_is few i) (d_is few i)))))
+          | yes h ↦ absurd (omega (arith, fifteen (s_of w) (d_of w) h, fits))
+          | no h ↦ omega arith
         ]
 
-    module _ (fits : t.end ≤ 750) where
-      few : p_of w ≤ 14
-      few =
-          elim (dec_lt 14 (p_of w)) [
-            | yes h ↦ absurd (omega (arith, end_is, fifteen (s_of w) (d_of w) h, fits))
-            | no h ↦ omega arith
-          ]
+    padding_is : padding_fault (unpack w) ≡ any_set (slice (tour_of w).end 750 (unpack w))
+    unfolding padding_fault tour_of
+    padding_is = sym (λ i. any_set (slice (size (p_is i) (s_is few i) (d_is few i)) 750 (unpack w)))
 
-      pub p_found : t.p ≡ p_in (unpack w)
-      unfolding tour_of
-      p_found = ap (λ (x : Toured). x.p) e ∙ p_is
+    -- what the last three tests find, in the lists where the view says
+    judge_is : first_of (list_faults (lists_in (unpack w))) ≡ list_fault (word_view (p_of w) (s_of w)) (p_of w) (s_of w) w
+    unfolding list_fault own_lists word_view d_of
+    judge_is = sym (ap (λ l. first_of (list_faults l)) (lists_in_lem w (p_of w) (s_of w) (d_of w) (omega arith) p_is (s_is few) (d_is few)))
 
-      pub s_found : t.s ≡ s_in (unpack w)
-      unfolding tour_of
-      s_found = ap (λ (x : Toured). x.s) e ∙ s_is few
+-- ---- all tests, one after the other: what is told by what the walk found and by the view of the word's lists
+abbrev pub said : List ℕ → Toured → View → Told
+said w t v =
+    choose (not (eqb (length w) 96)) (refused_by 1)
+    (choose (any_set (slice 762 768 (unpack w))) (refused_by 2)
+    (choose (not (eqb (field_at w 750 12) (crc12_of w 0 750))) (refused_by 5)
+    (choose (not (eqb t.version 0)) (refused_by 6)
+    (choose (ltb 750 t.end) (refused_by 7)
+    (choose (any_set (slice t.end 750 (unpack w))) (refused_by 8)
+    (choose (eqb (list_fault v t.counts.p t.counts.s w) 0) (counted t.counts.p t.counts.s t.counts.d)
+    (refused_by (list_fault v t.counts.p t.counts.s w))))))))
 
-      pub d_found : t.d ≡ d_in (unpack w)
-      unfolding tour_of
-      d_found = ap (λ (x : Toured). x.d) e ∙ d_is few
+-- a test more in front of others
+test : (k : ℕ) (b : Bool) (l : List Fault) (vs : List ℕ) → verdict (refuse (suc k) b ∷ l) vs ≡ choose b (refused_by (suc k)) (verdict l vs)
+test k true l vs = choose_false _ _ (ne_eqb (suc k) 0 (λ z. omega arith))
+test k false l vs = refl
 
-      pub padding_is : {r : Bool} {from to : ℕ} → r ≡ any_set (slice from to (unpack w)) → from ≡ t.end → to ≡ 750 → padding_fault (unpack w) ≡ r
-      unfolding padding_fault
-      padding_is f x y = sym (f ∙ ap₂ (λ (a z : ℕ). any_set (slice a z (unpack w))) x y ∙ (λ i. any_set (slice ((end_is ∙ (λ j. size (p_is j) (s_is few j) (d_is few j))) i) 750 (unpack w))))
+module _ (w : List ℕ) where
+  abbrev view : View
+  view = word_view (p_of w) (s_of w)
 
-      -- what the last three tests find, in the lists where the view says
-      pub judge_is : (v : View) → v ≡ word_view t.p t.s → {r : ℕ} → r ≡ list_fault v t.p t.s w → r ≡ first_of (drop 5 (word_faults (unpack w)))
-      unfolding word_faults list_fault own_lists tour_of word_view d_of
-      judge_is v f g =
-          let own : (owned_at w (word_view t.p t.s).pipes t.p).d ≡ t.d = own_is in
-          g ∙ ap (λ (x : View). list_fault x t.p t.s w) f
-          ∙ ap (λ (k : ℕ). first_of (list_faults (lists_at (word_view t.p t.s) t.p t.s k w))) own
-          ∙ ap (λ l. first_of (list_faults l)) (lists_in_lem w t.p t.s t.d (omega (arith, within)) p_found s_found d_found)
-        where
-          own_is : (owned_at w 56 t.p).d ≡ t.d
-          own_is = ap (λ (x : Toured). (owned_at w 56 x.p).d) e ∙ ends ∙ sym (ap (λ (x : Toured). x.d) e)
-            where
-              ends : (owned_at w 56 (p_of w)).d ≡ (tour_of w).d
-              ends = refl
+  surveyed_as : surveyed_word w ≡ said w (tour_of w) view
+  unfolding surveyed_word word_faults tour_of
+  surveyed_as =
+      let b : List ℕ = unpack w in
+      let fs : List Fault = word_faults b in
+      let vs : List ℕ = p_in b ∷ s_in b ∷ d_in b ∷ [] in
+      test 0 (not (eqb (length w) 96)) fs vs ∙ behind _ refl (λ x.
+      let n : length w ≡ 96 = no_difference (length w) 96 x in
+      test 1 (spare_fault b) (drop 1 fs) vs ∙ behind _ (spare_is w n) (λ _.
+      test 4 (crc_fault b) (drop 2 fs) vs ∙ behind _ (crc_is w n) (λ _.
+      test 5 (version_fault (multiplex_in b)) (drop 3 fs) vs ∙ behind _ (version_is w n) (λ _.
+      test 6 (lists_fault (p_in b) (s_in b) (d_in b)) (drop 4 fs) vs ∙ behind _ (lists_are w n) (λ y.
+      let fits : size (p_of w) (s_of w) (d_of w) ≤ 750 = ltb-false 750 _ (sym (lists_are w n) ∙ y) in
+      test 7 (padding_fault b) (drop 5 fs) vs ∙ behind _ (padding_is w n fits) (λ _.
+      let few : p_of w ≤ 14 = few w n fits in
+      (λ i. choose (eqb (judge_is w n fits i) 0) (counted (sym (p_is w n) i) (sym (s_is w n few) i) (sym (d_is w n few) i)) (refused_by (judge_is w n fits i)))))))))
 
-          within : size t.p t.s t.d ≤ 8 * length w
-          within = omega (arith, end_is, fits, ap (λ (x : Toured). x.p) e, ap (λ (x : Toured). x.s) e, ap (λ (x : Toured). x.d) e)
+  pub surveyed_is : (t : Toured) → t ≡ tour_of w → (v : View) → v ≡ word_view t.counts.p t.counts.s → surveyed_word w ≡ said w t v
+  unfolding tour_of
+  surveyed_is t e v f =
+      surveyed_as ∙ sym (ap (said w t) f ∙ ap (λ (x : Toured). said w x (word_view x.counts.p x.counts.s)) e)
 
--- ---- what the tests up to one of them say together
--- 1: the word's length alone
+-- ---- a word of another length, and one of 96 bytes
 module _ (w : List ℕ) where
   pub told_length : (length w ≡ 96 → ⊥) → surveyed_word w ≡ refused_by 1
   unfolding surveyed_word
@@ -162,31 +182,3 @@ module _ (w : List ℕ) where
   unfolding surveyed_word surveyed
   told_bits n =
       ap (λ (m : ℕ). choose (eqb m 0) (accepted_with (p_in (unpack w) ∷ s_in (unpack w) ∷ d_in (unpack w) ∷ [])) (refused_by m)) (first_clear _ (word_faults (unpack w)) (ap not (eq-eqb (length w) 96 n)))
-
--- the word has 96 bytes, and the first k tests of its bits find nothing: the answer is that of the tests behind them
-pub record Passed (k : ℕ) (w : List ℕ) : Type 0 where
-  pub whole : length w ≡ 96
-  pub rest : first_of (word_faults (unpack w)) ≡ first_of (drop k (word_faults (unpack w)))
-
-pub none_yet : (w : List ℕ) → length w ≡ 96 → Passed 0 w
-none_yet w n = record { whole = n; rest = refl }
-
-module _ {k : ℕ} {w : List ℕ} (c : Passed k w) where
-  abbrev b : List ℕ
-  b = unpack w
-
-  pub told_at : (m : ℕ) → m ≡ first_of (drop k (word_faults b)) → (m ≡ 0 → ⊥) → refused_by m ≡ surveyed_word w
-  unfolding surveyed
-  told_at m e h = sym (told_bits w c.whole ∙ verdict_refused (word_faults b) _ (c.rest ∙ sym e) h)
-
-  pub told_all : 0 ≡ first_of (drop k (word_faults b)) → {p s d : ℕ} → p ≡ p_in b → s ≡ s_in b → d ≡ d_in b → accepted_with (p ∷ s ∷ d ∷ []) ≡ surveyed_word w
-  unfolding surveyed
-  told_all e x y z = (λ i. accepted_with (x i ∷ y i ∷ z i ∷ [])) ∙ sym (told_bits w c.whole ∙ verdict_accepted (word_faults b) _ (c.rest ∙ sym e))
-
-  -- the next test answers, or is passed
-  pub told_next : (fault_at k (word_faults b)).found ≡ true → refused_by (fault_at k (word_faults b)).number ≡ surveyed_word w
-  unfolding word_faults
-  told_next e = told_at _ (sym (next_found k (word_faults b) e)) (λ z. omega (arith, found_above k (word_faults b) tt e))
-
-  pub pass_next : (fault_at k (word_faults b)).found ≡ false → Passed (suc k) w
-  pass_next e = record { whole = c.whole; rest = c.rest ∙ next_clear k (word_faults b) e }

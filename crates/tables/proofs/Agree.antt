@@ -15,8 +15,8 @@ use Rattle.tables.proofs.plan_of.Reads as plan_of_reads
 
 module _ (κs : Lfts 2) (a : ArgsD plan_into.signature κs) where
   pub plan_into_agrees : (r r' : ResD plan_into.signature κs) (s s' : AtExit (ended_of 2 plan_into_kinds.ps plan_into_kinds.r) κs) →
-      plan_into_reads.Post κs a r s → plan_into_reads.Post κs a r' s' → (r ≡ r') × (s.1.0.now ≡ s'.1.0.now)
-  plan_into_agrees r r' s s' p q = (same p.1 q.1, same p.0 q.0)
+      plan_into_reads.Post κs a r s → plan_into_reads.Post κs a r' s' → s.1.0.now ≡ s'.1.0.now
+  plan_into_agrees r r' s s' p q = same p q
 
 module _ (κs : Lfts 1) (a : ArgsD plan_of.signature κs) where
   pub plan_of_agrees : (r r' : ResD plan_of.signature κs) (s s' : AtExit (ended_of 1 plan_of_kinds.ps plan_of_kinds.r) κs) →

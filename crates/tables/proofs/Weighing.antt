@@ -16,7 +16,7 @@ use Rattle.patterns.specs.Sent.{total}
 use Rattle.patterns.proofs.Totals.{total_more, total_mono, total_add}
 use Rattle.constituent.specs.Segment.{digit_at, weight}
 use Rattle.tables.specs.Plan.{half_at}
-use Rattle.tables.specs.Tables.{weights_of, HalfOf, Light}
+use Rattle.tables.specs.Tables.{weights_of, HalfOf, Light, weighed}
 use Rattle.tables.specs.declared.weights.Half.{Half}
 
 module _ (rows : List ℕ) (h : ℕ) where
@@ -119,8 +119,6 @@ weighing_all rows h r k = record {
 }
 
 -- ---- what bits weigh together
-abbrev pub weighed : List ℕ → ℕ → ℕ → ℕ
-weighed w x t = x / 2 ^ (35 - t) % 2 * get_or w t 0
 
 -- t of 36 bits are weighed
 pub record Summed (w : List ℕ) (x sum t : ℕ) : Type 0 where

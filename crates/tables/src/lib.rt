@@ -16,25 +16,30 @@ pub struct Plan {
     pub k1: usize,
 }
 
-// The tables by a pattern's groups into the lent entries, and how many bits it sends of the six groups of each half. Of the groups the first twelve are read: a
-// symbol of the data is sent once or not at all.
-pub fn plan_into(rows: &[u16; 18], look: &mut [u64; 384]) -> (usize, usize)
-    ensures { (look.new ≡ (plan_of rows.now).look) × (result ≡ ((plan_of rows.now).k0, (plan_of rows.now).k1)) }
+// The tables by a pattern's groups into the lent ones, whatever they held. Of the groups the first twelve are read: a symbol of the data is sent once or not at all.
+pub fn plan_into(rows: &[u16; 18], plan: &mut Plan)
+    ensures { plan.new ≡ plan_of rows.now }
 {
     let alone = constituent::impulses();
-    let a = weights::weights_of(rows, 0);
-    let w = a.weights;
-    let k0 = a.bits - 6;
-    look::half_of(look, rows, 0, &w, &alone);
-    let k1 = look::second_half(look, rows, &alone, k0);
-    (k0, k1)
+    plan.k0 = look::half_of(&mut plan.look[..look::HALF], rows, 0, &alone);
+    if rows[6..12] == rows[..6] {
+        look::copy_half(&mut plan.look);
+        plan.k1 = plan.k0;
+    } else {
+        plan.k1 = look::half_of(&mut plan.look[look::HALF..], rows, 1, &alone);
+    }
 }
 
 // The tables by a pattern's groups, of which the first twelve are read: a symbol of the data is sent once or not at all.
+// It stands beside `plan_into` since its promise does.
 pub fn plan_of(rows: &[u16; 18]) -> Plan
     ensures { result ≡ plan_of rows.now }
 {
-    let mut look = [0u64; 384];
-    let (k0, k1) = plan_into(rows, &mut look);
-    Plan { look, k0, k1 }
+    let mut plan = Plan {
+        look: [0; 384],
+        k0: 0,
+        k1: 0,
+    };
+    plan_into(rows, &mut plan);
+    plan
 }

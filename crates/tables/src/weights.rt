@@ -1,8 +1,8 @@
 // What each bit of six bit periods weighs in the number of what is sent of them.
-ghost use Rattle.std.specs.Prelude.{◌≡◌, ◌+◌, ◌-◌, ◌*◌, ◌/◌, ◌%◌, ◌^◌, ◌<◌, get_or};
+ghost use Rattle.std.specs.Prelude.{◌≡◌, ◌<◌};
 ghost use Rattle.patterns.specs.Sent.{total};
 ghost use Rattle.tables.specs.Plan.{half_at};
-ghost use Rattle.tables.specs.Tables.{HalfOf, Light};
+ghost use Rattle.tables.specs.Tables.{HalfOf, Light, weighed};
 
 // Of a half of twelve groups, with the registers' six bits behind: what each place weighs, and how many bits there are.
 #[derive(Clone, Copy)]
@@ -29,9 +29,7 @@ pub fn weights_of(rows: &[u16; 18], h: usize) -> Half
 {
     let mut weights = [0u64; 36];
     let mut bits = 0;
-    let mut i = 36;
-    while 0 < i {
-        i -= 1;
+    for i in (0..36).rev() {
         let d = digit_at(rows, h, i);
         weights[i] = (d as u64) << bits;
         bits += d as usize;
@@ -42,13 +40,11 @@ pub fn weights_of(rows: &[u16; 18], h: usize) -> Half
 // What the 36 bits of x weigh together.
 pub fn weigh(w: &[u64; 36], x: u64) -> u64
     requires { Light w.now }
-    ensures { result ≡ total (λ t. x / 2 ^ (35 - t) % 2 * get_or w.now t 0) 36 }
+    ensures { result ≡ total (weighed w.now x) 36 }
 {
     let mut sum = 0;
-    let mut t = 0;
-    while t < 36 {
-        sum += (x >> (35 - t)) % 2 * w[t];
-        t += 1;
+    for (t, weight) in w.iter().enumerate() {
+        sum += (x >> (35 - t)) % 2 * *weight;
     }
     sum
 }

@@ -31,12 +31,6 @@ fn tails() -> [u16; 16]
     TAILS
 }
 
-fn wide(x: u16) -> u64
-    ensures { (result ≡ x) × (result < 65536) }
-{
-    x as u64
-}
-
 // Bits that are sent together, as a number, and how many there are.
 #[derive(Clone, Copy)]
 pub struct Run {
@@ -44,15 +38,17 @@ pub struct Run {
     pub bits: usize,
 }
 
-// A symbol more, so many times. Of more than 64 bits the last 64 are kept.
-fn more(r: Run, symbol: u64, times: u8) -> Run
-    requires { (symbol < 2) × (times < 8) × (r.bits ≤ 210) }
-    ensures { (result.value ≡ (r.value * 2 ^ times + (2 ^ times - 1) * symbol) % 2 ^ 64) × (result.bits ≡ r.bits + times) }
-{
-    let t = times as usize;
-    Run {
-        value: (r.value << t) + ((1 << t) - 1) * symbol,
-        bits: r.bits + t,
+impl Run {
+    // A symbol more, so many times. Of more than 64 bits the last 64 are kept.
+    fn more(self, symbol: u64, times: u8) -> Run
+        requires { (symbol < 2) × (times < 8) × (self.bits ≤ 210) }
+        ensures { (result.value ≡ (self.value * 2 ^ times + (2 ^ times - 1) * symbol) % 2 ^ 64) × (result.bits ≡ self.bits + times) }
+    {
+        let t = times as usize;
+        Run {
+            value: (self.value << t) + ((1 << t) - 1) * symbol,
+            bits: self.bits + t,
+        }
     }
 }
 
@@ -61,16 +57,11 @@ pub fn run_of(rows: &[u16; 18], both: usize) -> Run
     ensures { result ≡ run_of rows.now both }
 {
     let table = tails();
-    let symbols = wide(table[both / 8 % 8]) * 32768 + wide(table[8 + both % 8]);
+    let symbols = table[both / 8 % 8] as u64 * 32768 + table[8 + both % 8] as u64;
     let mut r = Run { value: 0, bits: 0 };
-    let mut k = 0;
-    while k < puncturing::TAIL_PLACES {
-        r = more(
-            r,
-            (symbols >> (29 - k)) % 2,
-            puncturing::digit(rows[puncturing::DATA_ENTRIES + k / 5], k % 5),
-        );
-        k += 1;
+    for k in 0..puncturing::TAIL_PLACES {
+        let times = puncturing::digit(rows[puncturing::DATA_ENTRIES + k / 5], k % 5);
+        r = r.more((symbols >> (29 - k)) % 2, times);
     }
     r
 }

@@ -182,20 +182,6 @@ onward_walks l n k t h =
       ]
     ]
 
--- as the code goes
-module _ (l : List ℕ) (n : ℕ) (t : Tap) where
-  pub onward_within : 1 < t.left → within t ≡ onward_of l n t
-  unfolding onward_of
-  onward_within a = sym (choose_true _ _ (lt-ltb 1 t.left a))
-
-  pub onward_same : t.left ≤ 1 → n ≤ t.next → t ≡ onward_of l n t
-  unfolding onward_of
-  onward_same a b = sym (choose_false _ _ (le-ltb 1 t.left a) ∙ choose_true _ _ (le-leb n t.next b))
-
-  pub onward_over : t.left ≤ 1 → t.next < n → (s : Section) → s ≡ section_at l t.next → over t s ≡ onward_of l n t
-  unfolding onward_of
-  onward_over a b s e = ap (over t) e ∙ sym (choose_false _ _ (le-ltb 1 t.left a) ∙ choose_false _ _ (lt-leb n t.next b))
-
 -- the first tap
 abbrev pub first_tap : Section → Tap
 first_tap s = record { len = 0; left = s.taps; diff = s.diff; next = 1 }

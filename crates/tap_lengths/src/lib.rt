@@ -2,8 +2,9 @@
 // A pipe is lent as its record of six bytes and its sections of two bytes each, as they stand in a sheet.
 #![tactic(auto)]
 
-ghost use Rattle.std.specs.Prelude.{◌≡◌, ◌≤◌};
+ghost use Rattle.std.specs.Prelude.{◌≡◌, ◌^◌, ◌<◌, ◌≤◌};
 ghost use Rattle.ground.specs.Table.{tab};
+ghost use Rattle.bits.specs.Places.{field_at};
 ghost use Rattle.tap_lengths.specs.Lengths.{tap_total, intermed_len};
 ghost use Rattle.tap_lengths.specs.Sections.{section_at, sections_at};
 ghost use Rattle.tap_lengths.specs.Inside.{Narrow, onward_of};
@@ -30,15 +31,23 @@ pub struct Tap {
     pub next: u8,
 }
 
+// A field of a few bits, as the byte that it fits.
+fn small_field(pipe: &[u8], at: usize, width: usize) -> u8
+    requires { width ≤ 8 }
+    ensures { (result ≡ field_at pipe.now at width) × (result < 2 ^ width) }
+{
+    bits::field(pipe, at, width) as u8
+}
+
 // The section i of a pipe.
 fn section_at(pipe: &[u8], i: u8) -> Section
     ensures { (result ≡ section_at pipe.now i) × (result.taps ≤ 32) × (result.diff ≤ 7) × (result.gap ≤ 31) }
 {
     let at = SECTIONS + APART * i as usize;
     Section {
-        taps: (bits::field(pipe, at, 4) as u8 + 1) * 2,
-        diff: bits::field(pipe, at + 4, 3) as u8,
-        gap: bits::field(pipe, at + 7, 5) as u16,
+        taps: (small_field(pipe, at, 4) + 1) * 2,
+        diff: small_field(pipe, at + 4, 3),
+        gap: u16::from(small_field(pipe, at + 7, 5)),
     }
 }
 
@@ -46,11 +55,9 @@ fn section_at(pipe: &[u8], i: u8) -> Section
 pub fn total(pipe: &[u8], n: u8) -> u32
     ensures { result ≡ tap_total (sections_at n pipe.now) }
 {
-    let mut taps: u32 = 0;
-    let mut i: u8 = 0;
-    while i < n {
-        taps += section_at(pipe, i).taps as u32;
-        i += 1;
+    let mut taps = 0;
+    for i in 0..n {
+        taps += u32::from(section_at(pipe, i).taps);
     }
     taps
 }
@@ -61,22 +68,21 @@ fn onward(pipe: &[u8], n: u8, t: Tap) -> Tap
     ensures { result ≡ onward_of pipe.now n t }
 {
     if 1 < t.left {
-        return Tap {
-            len: t.len + t.diff as u16,
+        Tap {
+            len: t.len + u16::from(t.diff),
             left: t.left - 1,
-            diff: t.diff,
-            next: t.next,
-        };
-    }
-    if n <= t.next {
-        return t;
-    }
-    let s = section_at(pipe, t.next);
-    Tap {
-        len: t.len + s.gap,
-        left: s.taps,
-        diff: s.diff,
-        next: t.next + 1,
+            ..t
+        }
+    } else if t.next < n {
+        let s = section_at(pipe, t.next);
+        Tap {
+            len: t.len + s.gap,
+            left: s.taps,
+            diff: s.diff,
+            next: t.next + 1,
+        }
+    } else {
+        t
     }
 }
 
@@ -84,7 +90,7 @@ fn onward(pipe: &[u8], n: u8, t: Tap) -> Tap
 pub fn lengths(pipe: &[u8], n: u8) -> [u16; 32]
     ensures { result ≡ tab (intermed_len (sections_at n pipe.now)) 0 32 }
 {
-    let mut lens = [0u16; 32];
+    let mut lens = [0; 32];
     if n == 0 {
         return lens;
     }
@@ -95,11 +101,9 @@ pub fn lengths(pipe: &[u8], n: u8) -> [u16; 32]
         diff: s.diff,
         next: 1,
     };
-    let mut k: usize = 0;
-    while k < 32 {
-        lens[k] = t.len;
+    for len in lens.iter_mut() {
+        *len = t.len;
         t = onward(pipe, n, t);
-        k += 1;
     }
     lens
 }

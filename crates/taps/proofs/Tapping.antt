@@ -4,7 +4,7 @@ use Prim.Native.Nat.{ℕ, ◌+◌, ◌*◌, ◌≤◌, ◌<◌}
 use mathlib.Core.Path.{◌≡◌, refl, sym, ap, ap₂, ◌∙◌, subst}
 use mathlib.Core.Bool.{Bool, true, false, not}
 use mathlib.Core.List.{List, [], ◌∷◌}
-use native.Mathlib.Nat.{mul-add, add_assoc, mul-zero, mul-le-mul_left, mul-le-mul_right}
+use native.Mathlib.Nat.{mul-add, add_assoc, mul-zero}
 use native.Mathlib.Numerals.{add-one}
 use native.Mathlib.Omega.{arith}
 use lib.Dec.{eqb}
@@ -23,7 +23,7 @@ use Rattle.views.specs.declared.View.{View}
 use Rattle.views.proofs.Rows.{rows_length, rows_get, rows_take}
 use Rattle.records.specs.Records.{pipe_of, pipe_at}
 use Rattle.records.specs.declared.Pipe.{Pipe}
-use Rattle.sheets.proofs.Owning.{total_more}
+use Rattle.sheets.proofs.Owning.{total_more, apart_small}
 
 -- what is asked of one payload pipe, as it is read
 abbrev pub untapped : Pipe → List ℕ → Bool
@@ -36,13 +36,6 @@ taps_more w at step n k t h e =
     let ts : List ℕ = fields_at w at step 4 n in
     ap₂ ◌+◌ e (ap taps_of (sym (fields_get w at step 4 n k h)))
     ∙ sym (ap (λ (i : ℕ). total taps_of (take i ts)) (add-one k) ∙ total_take taps_of ts k 0 (subst (λ (m : ℕ). k < m) (sym (fields_length w at step 4 n)) h))
-
--- so many sections of any distance keep far within a number of 64 bits
-pub taps_far : (a k n : ℕ) → a < 4294967296 → k ≤ n → n ≤ 32 → a * k ≤ 4294967295 * n
-taps_far a k n h l m =
-    let x : a * k ≤ a * n = mul-le-mul_left a l in
-    let y : a * n ≤ 4294967295 * n = mul-le-mul_right n (omega arith) in
-    omega (arith, x, y)
 
 -- the payload pipe i, and the place from of its sections, behind those of the pipes before it
 module _ (w : List ℕ) (v : View) (p : ℕ) where
@@ -57,15 +50,14 @@ module _ (w : List ℕ) (v : View) (p : ℕ) where
 
   -- nothing was found in the pipes before i, whose sections end at the place from
   pub record Tapped (i from : ℕ) : Type 0 where
-    pub within : i ≤ p
     pub place : from ≡ v.sections + v.apart * total own_sections (rows_at table16 48 i w v.pipes)
-    pub far : from ≤ v.sections + 34359738360 * i
+    pub far : from ≤ v.sections + 281470681677825 * i
     pub rest : tap_fault (rows_at table16 48 p w v.pipes) (fields_at w v.sections v.apart 4 (total own_sections (rows_at table16 48 p w v.pipes)))
         ≡ tap_fault (drop i (rows_at table16 48 p w v.pipes)) (drop (total own_sections (rows_at table16 48 i w v.pipes)) (fields_at w v.sections v.apart 4 (total own_sections (rows_at table16 48 p w v.pipes))))
 
   pub tapped_none : Tapped 0 v.sections
   unfolding rows_at Rattle.ground.specs.Table.tab total
-  tapped_none = record { within = omega arith; place = omega (arith, mul-zero v.apart); far = omega arith; rest = refl }
+  tapped_none = record { place = omega (arith, mul-zero v.apart); far = omega arith; rest = refl }
 
   module _ {i from : ℕ} (h : Tapped i from) (more : i < p) (q : Pipe) (e : q ≡ pipe_at w v.pipes i) where
     f : List ℕ
@@ -103,13 +95,12 @@ module _ (w : List ℕ) (v : View) (p : ℕ) where
     pub tapped_found : untapped q (fields_at w from v.apart 4 q.d) ≡ true → tap_fault rows ts ≡ true
     tapped_found t = step ∙ ap (λ (b : Bool). either b (tap_fault (drop (i + 1) rows) (drop (done (i + 1)) ts))) t
 
-    pub tapped_more : v.apart < 4294967296 → q.d ≤ 8 → untapped q (fields_at w from v.apart 4 q.d) ≡ false → Tapped (i + 1) (from + v.apart * q.d)
+    pub tapped_more : v.apart < 4294967296 → q.d < 65536 → untapped q (fields_at w from v.apart 4 q.d) ≡ false → Tapped (i + 1) (from + v.apart * q.d)
     tapped_more a small t = record {
-      within = omega arith;
       place =
           ap₂ (λ (x y : ℕ). x + v.apart * y) h.place own ∙ add_assoc v.sections (v.apart * done i) (v.apart * own_sections f)
           ∙ ap (λ (x : ℕ). v.sections + x) (sym (mul-add v.apart (done i) (own_sections f)) ∙ ap (λ (x : ℕ). v.apart * x) next);
-      far = omega (arith, h.far, taps_far v.apart q.d 8 a small (omega arith));
+      far = omega (arith, h.far, apart_small v.apart q.d a small);
       rest = step ∙ ap (λ (b : Bool). either b (tap_fault (drop (i + 1) rows) (drop (done (i + 1)) ts))) t;
     }
 

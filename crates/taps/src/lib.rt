@@ -1,7 +1,7 @@
 // The test 10: the taps of payload pipes, whose sections stand where a view says, in a word or in a sheet.
 #![tactic(auto)]
 
-ghost use Rattle.std.specs.Prelude.{◌≡◌, not, ◌≤◌, ◌<◌, eqb};
+ghost use Rattle.std.specs.Prelude.{◌≡◌, not, ◌^◌, ◌<◌, eqb};
 ghost use Rattle.ground.specs.Choice.{both};
 ghost use Rattle.bits.specs.Places.{fields_at};
 ghost use Rattle.description.specs.Rows.{total};
@@ -17,45 +17,39 @@ use views::View;
 const TAPS: u32 = 32;
 
 // The taps of n sections, so many bits apart, whose first stands at a place.
-fn taps_at(w: &[u8], at: usize, apart: usize, n: usize) -> u32
-    requires { (n ≤ 8) × (apart < 4294967296) × (at ≤ 1125899906842624) }
+#[tactic(auto, using(bits::proofs::Places::field_lt))]
+fn taps_at(w: &[u8], at: usize, apart: u32, n: u16) -> u32
+    requires { at < 2 ^ 63 }
     ensures { result ≡ total taps_of (fields_at w.now at apart 4 n) }
 {
-    let mut taps: u32 = 0;
-    let mut k: usize = 0;
-    while k < n {
+    let mut taps = 0;
+    for k in 0..n {
         // Num_Taps_Div2_1 (table 19)
-        taps += (bits::field(w, at + apart * k, 4) + 1) * 2;
-        k += 1;
+        let half = bits::field(w, at + apart as usize * k as usize, 4) + 1;
+        taps += half * 2;
     }
     taps
 }
 
 // Whether a payload pipe whose sections begin at a place is in use without 32 taps.
-fn taps_wrong(w: &[u8], q: Pipe, at: usize, apart: usize) -> bool
-    requires { (q.d ≤ 8) × (apart < 4294967296) × (at ≤ 1125899906842624) }
+fn taps_wrong(w: &[u8], q: Pipe, at: usize, apart: u32) -> bool
+    requires { at < 2 ^ 63 }
     ensures { result ≡ both (not (eqb q.width 0)) (not (eqb (total taps_of (fields_at w.now at apart 4 q.d)) 32)) }
 {
-    if q.width == 0 {
-        return false;
-    }
-    taps_at(w, at, apart, q.d as usize) != TAPS
+    q.width != 0 && taps_at(w, at, apart, q.d) != TAPS
 }
 
 // 10: whether one of the p payload pipes is in use without 32 taps; their sections stand in the order of the pipes.
 pub fn any_taps_wrong(w: &[u8], v: View, p: u8) -> bool
     ensures { result ≡ tap_fault (rows_at table16 48 p w.now v.pipes) (fields_at w.now v.sections v.apart 4 (total own_sections (rows_at table16 48 p w.now v.pipes))) }
 {
-    let apart = v.apart as usize;
     let mut from = v.sections as usize;
-    let mut i: u8 = 0;
-    while i < p {
+    for i in 0..p {
         let q = records::pipe_at(w, v.pipes, i);
-        if taps_wrong(w, q, from, apart) {
+        if taps_wrong(w, q, from, v.apart) {
             return true;
         }
-        from += apart * q.d as usize;
-        i += 1;
+        from += v.apart as usize * q.d as usize;
     }
     false
 }

@@ -25,8 +25,9 @@ use Rattle.description.proofs.DemandWrite.{judged, long_refused}
 use Rattle.lines.specs.Lines.{accepted}
 use Rattle.text.specs.Listing.{listing, refused}
 use Rattle.text.specs.Answers.{told, answered, listed, text_in, SaysOk}
-use Rattle.text.specs.declared.Listing.{Listing}
-use Rattle.text.specs.declared.Listing.TheVariants.{Text, Refused, NoRoom}
+use Rattle.std.specs.Prelude.{Result, Ok, Err}
+use Rattle.text.specs.declared.Unlisted.{Unlisted}
+use Rattle.text.specs.declared.Unlisted.TheVariants.{Refused, NoRoom}
 use Rattle.text.proofs.Listed.{final}
 use Rattle.text.proofs.Ok.{accepted_says, refused_silent}
 use Rattle.text.specs.contracts.list as list
@@ -34,10 +35,10 @@ use Rattle.text.proofs.list.Kinds as list_kinds
 use Rattle.text.proofs.list.Reads as list_reads
 
 -- the text in the room is the listing
-text_final : (r : Listing) (room : List ℕ) → text_in r room ≡ take (final (told r).values) room
-text_final (Text n) room = refl
-text_final (Refused m n) room = refl
-text_final NoRoom room = refl
+text_final : (r : Result ℕ Unlisted) (room : List ℕ) → text_in r room ≡ take (final (told r).values) room
+text_final (Ok n) room = refl
+text_final (Err (Refused e n)) room = refl
+text_final (Err NoRoom) room = refl
 
 final_answered : (sh : List ℕ) → final (answered sh).values ≡ length (listing sh)
 unfolding answered
@@ -47,7 +48,7 @@ final_answered sh =
       | no h ↦ ap (λ (t : Told). final t.values) (choose_false _ _ (ne_eqb (checked sh).number 0 h))
     ]
 
-module _ (sh out : List ℕ) (r : Listing) (after : List ℕ) (p : Is (listed sh out) (told r) after) (room : 1024 ≤ length out) where
+module _ (sh out : List ℕ) (r : Result ℕ Unlisted) (after : List ℕ) (p : Is (listed sh out) (told r) after) (room : 1024 ≤ length out) where
   text_is : text_in r after ≡ listing sh
   unfolding listed
   text_is =

@@ -1,16 +1,15 @@
--- Laws of the copies out of a word: a byte more, and a section more.
+-- Laws of the copies out of a word: its bytes, and a section more.
 -- Assumes nothing.
-use Prim.Native.Nat.{ℕ, zero, suc, ◌+◌, ◌*◌, ◌/◌, ◌%◌, ◌^◌, ◌≤◌, ◌<◌}
+use Prim.Native.Nat.{ℕ, zero, suc, ◌+◌, ◌-◌, ◌*◌, ◌/◌, ◌%◌, ◌^◌, ◌≤◌, ◌<◌}
 use mathlib.Core.Path.{◌≡◌, refl, sym, ap, ap₂, ◌∙◌, subst}
 use mathlib.Core.List.{List, [], ◌∷◌, ◌++◌}
 use native.Mathlib.Nat.{mod-eq_of_lt}
-use native.Mathlib.Numerals.{add-one}
 use native.Mathlib.Omega.{arith}
 use lib.ListN.{length, get_or, take, drop, set, length-append, length-drop, take-append-drop}
 use lib.Seq.{paste, paste-suc, take_at, drop-drop, take-append-le, drop-append-le, length-take-le}
 use Rattle.bits.specs.Lists.{bits, num, unpack, pack, Below}
 use Rattle.bits.specs.Places.{field_at}
-use Rattle.bits.proofs.Lists.{bits_length, num_append, num_lt, unpack_below, unpack_length, pack_length}
+use Rattle.bits.proofs.Lists.{bits_length, num_append, num_lt, unpack_below, unpack_length, unpack_drop, unpack_take, pack_length, pack_unpack, pack_take}
 use Rattle.bits.proofs.Below.{below_take, below_drop}
 use Rattle.bits.proofs.Places.{field_lt}
 use Rattle.bits.proofs.Joined.{field_from, pack_at}
@@ -20,16 +19,19 @@ use Rattle.description.specs.Sheet.{in_sheet}
 use Rattle.description.proofs.Rows.{join_cut, joins_at, cuts_at, cuts_length}
 use Rattle.description.proofs.Form1.{in_length}
 
--- ---- a byte more of a copy: byte k of the n at a bit place
-pub byte_more : (o w : List ℕ) (at to n k r : ℕ) → to + k < length o → k < n → at + 8 * n ≤ 8 * length w → r ≡ field_at w (at + 8 * k) 8
-    → set (paste o to (pack n (drop at (unpack w))) k) (to + k) (r % 256) ≡ paste o to (pack n (drop at (unpack w))) (k + 1)
-byte_more o w at to n k r hd h f e =
-    let x : List ℕ = pack n (drop at (unpack w)) in
-    let l : field_at w (at + 8 * k) 8 < 256 = field_lt w (at + 8 * k) 8 (omega arith) in
-    let q : field_at w (at + 8 * k) 8 ≡ get_or x k 0 =
-    field_from w at (8 * k) 8 (omega arith) (omega arith) ∙ sym (pack_at n (drop at (unpack w)) k h) in
-    let m : r % 256 ≡ get_or x k 0 = ap (λ (y : ℕ). y % 256) e ∙ mod-eq_of_lt l ∙ q in
-    rw (m, add-one) (paste-suc o to x k 0 hd (rw pack_length h))
+-- ---- the n bytes at a bit place that is a byte's
+pub bytes_at : (w : List ℕ) (at n : ℕ) → Below 256 w → at % 8 ≡ 0 → at / 8 + n ≤ length w → take n (drop (at / 8) w) ≡ pack n (drop at (unpack w))
+bytes_at w at n b z h =
+    let a : ℕ = at / 8 in
+    let v : List ℕ = drop a w in
+    let l : length v ≡ length w - a = length-drop a w in
+    let m : length (take n v) ≡ n = length-take-le n v (omega (arith, l)) in
+    let i : 8 * a ≡ at = omega arith in
+    sym (pack_unpack (take n v) (below_take 256 n v (below_drop 256 a w b)))
+    ∙ ap (λ (k : ℕ). pack k (unpack (take n v))) m
+    ∙ ap (pack n) (sym (unpack_take n v (omega (arith, l))))
+    ∙ pack_take n (8 * n) (unpack v) (omega arith) (omega (arith, unpack_length v, l))
+    ∙ ap (pack n) (sym (unpack_drop a w (omega arith)) ∙ ap (λ (k : ℕ). drop k (unpack w)) i)
 
 -- ---- a section more of a copy: section k of the d at a bit place
 

@@ -2,7 +2,7 @@
 -- Assumes nothing.
 use Prim.Native.Nat.{ℕ, ◌+◌, ◌*◌, ◌/◌, ◌≤◌}
 use mathlib.Core.Path.{◌≡◌, refl, sym, ap, ap₂, ◌∙◌}
-use mathlib.Core.List.{List, [], ◌∷◌, ◌++◌, append_assoc}
+use mathlib.Core.List.{List, ◌∷◌, ◌++◌, append_assoc}
 use native.Mathlib.Omega.{arith}
 use lib.ListN.{length, drop, length-append, length-drop}
 use lib.Seq.{paste}
@@ -20,7 +20,7 @@ use Rattle.views.specs.declared.View.{View}
 use Rattle.views.proofs.Views.{WordPlaces, SheetPlaces}
 use Rattle.to_sheet.proofs.Copies.{sheet_bits, sheet_sections}
 
-pub header_length : (p s d : ℕ) → length (header form1 p s d) ≡ 12
+header_length : (p s d : ℕ) → length (header form1 p s d) ≡ 12
 unfolding header
 header_length p s d = refl
 
@@ -31,10 +31,7 @@ pub record Front (out a : List ℕ) (n : ℕ) (o : List ℕ) : Type 0 where
   pub long : length a ≡ n
   pub holds : o ≡ a ++ drop n out
 
-pub front_none : (out : List ℕ) → Front out [] 0 out
-front_none out = record { long = refl; holds = refl }
-
-pub front_more : {out a o o' : List ℕ} {n m : ℕ} (x : List ℕ) → length x ≡ m → Front out a n o → o' ≡ paste o n x m → Front out (a ++ x) (n + m) o'
+front_more : {out a o o' : List ℕ} {n m : ℕ} (x : List ℕ) → length x ≡ m → Front out a n o → o' ≡ paste o n x m → Front out (a ++ x) (n + m) o'
 front_more {out} {a} {n = n} {m} x l f e = record {
   long = length-append a x ∙ ap₂ (λ (i j : ℕ). i + j) f.long l;
   holds = e ∙ ap (λ (z : List ℕ). paste z n x m) f.holds ∙ paste_behind out a x n m f.long l;
@@ -93,7 +90,7 @@ module _ (b : List ℕ) (p s d : ℕ) (below : Below 2 b) (pipes : p ≡ p_in b)
 
   -- the calls in their order, each from a place of the word to a place of the sheet
   pub filled : (from to : View) → WordPlaces p s from → SheetPlaces form1 p s to → (out : List ℕ) {o₁ o₂ o₃ o₄ o₅ o₆ : List ℕ}
-      → o₁ ≡ paste out 0 (header form1 p s d) 12
+      → o₁ ≡ header form1 p s d ++ drop 12 out
       → o₂ ≡ paste o₁ (to.multiplex / 8) (pack 7 (drop from.multiplex b)) 7
       → o₃ ≡ paste o₂ (to.tail / 8) (pack 2 (drop from.tail b)) 2
       → o₄ ≡ paste o₃ (to.pipes / 8) (pack (6 * p) (drop from.pipes b)) (6 * p)
@@ -106,7 +103,7 @@ module _ (b : List ℕ) (p s d : ℕ) (below : Below 2 b) (pipes : p ≡ p_in b)
       let i₄ : to.pipes / 8 ≡ 21 = omega (arith, v.pipes) in
       let i₅ : to.streams / 8 ≡ 21 + 6 * p = omega (arith, v.streams) in
       let i₆ : to.sections / 8 ≡ 21 + 6 * p + 2 * s = omega (arith, v.sections) in
-      let f₁ = front_more (header form1 p s d) (header_length p s d) (front_none out) e₁ in
+      let f₁ : Front out (header form1 p s d) 12 o₁ = record { long = header_length p s d; holds = e₁ } in
       let f₂ = bytes_more 7 b f₁ (e₂ ∙ ap₂ (λ (i j : ℕ). paste o₁ i (pack 7 (drop j b)) 7) i₂ u.multiplex) in
       let f₃ = bytes_more 2 (drop (56 + 48 * p) b) f₂ (e₃ ∙ ap₂ (λ (i j : ℕ). paste o₂ i (pack 2 (drop j b)) 2) i₃ u.tail) in
       let f₄ = bytes_more (6 * p) (drop 56 b) f₃ (e₄ ∙ ap₂ (λ (i j : ℕ). paste o₃ i (pack (6 * p) (drop j b)) (6 * p)) i₄ u.pipes) in

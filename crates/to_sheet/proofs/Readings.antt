@@ -27,7 +27,7 @@ use Rattle.description.proofs.Word.{counted_in, sound_in}
 use Rattle.sheets.proofs.Found.{counted, Found, counted_found}
 use Rattle.survey.specs.Survey.{surveyed_word}
 use Rattle.survey.proofs.Surveys.{told_length, told_bits}
-use Rattle.to_sheet.specs.Filled.{Counts}
+use Rattle.to_sheet.specs.Filled.{Fillable}
 
 -- ---- refused for its lengths
 module _ (w out : List ℕ) where
@@ -96,8 +96,8 @@ module _ (w out : List ℕ) (room : 128 ≤ length out) where
         gave (choose_true _ _ (eq-eqb (read_refusal w out) 0 z) ∙ ap₂ (λ (t : Told) (m : List ℕ). record { answer = t; memory = m }) (sym told_is) (sym f))
 
     -- what the filling of the sheet asks
-    pub counts : Counts w p s d out
-    counts =
+    pub fillable : Fillable w p s d out
+    fillable =
         let f = found (unpack w) p s d told_is in
         let k = passes (unpack w) f.clear in
         let c = counted_in (unpack w) in

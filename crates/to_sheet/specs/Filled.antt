@@ -6,7 +6,7 @@ use Rattle.description.specs.Rules.{size}
 use Rattle.description.specs.Sheet.{form1, sheet_end}
 use Rattle.description.specs.Word.{p_in, s_in, d_in}
 
-pub record Counts (w : List ℕ) (p s d : ℕ) (out : List ℕ) : Type 0 where
+pub record Fillable (w : List ℕ) (p s d : ℕ) (out : List ℕ) : Type 0 where
   pub word : length w ≡ 96
   pub pipes : p ≡ p_in (unpack w)
   pub streams : s ≡ s_in (unpack w)

@@ -8,23 +8,20 @@ ghost use Rattle.bits.specs.Lists.{Below};
 ghost use Rattle.description.specs.Word.{reading};
 ghost use Rattle.sheets.specs.Answers.{told};
 
-use ground::LENGTH_WRONG;
-use sheets::answer::Answer;
+use ground::refusal::Refusal;
+use views::Counts;
 
 // The room that a reader is lent (01): an accepted word's sheet has at most 121 bytes.
 const ROOM: usize = 128;
 
 // Reads a signalling word of 96 bytes into the front of a lent sheet of 128 bytes or more.
-pub fn read(word: &[u8], sheet: &mut [u8]) -> Answer
+pub fn read(word: &[u8], sheet: &mut [u8]) -> Result<Counts, Refusal>
     ensures { Is (reading word.now sheet.old) (told result) sheet.new × Below 256 word.now }
 {
     if sheet.len() < ROOM {
-        return Answer::Refused(LENGTH_WRONG);
+        return Err(Refusal::LengthWrong);
     }
-    let found = survey::survey(word);
-    let Answer::Accepted { p, s, d } = found else {
-        return found;
-    };
-    fill::fill(word, p, s, d, sheet);
-    found
+    let counts = survey::survey(word)?;
+    fill::fill(word, counts, sheet);
+    Ok(counts)
 }

@@ -5,7 +5,7 @@ use contract.Lifetimes.{Lfts}
 use borrow.Fn.World.{ArgsD, ResD}
 use borrow.Fn.Kinds.{ended_of}
 use denote.Triple.Clauses.{AtExit}
-use Rattle.ground.proofs.Outcome.{agree}
+use Rattle.ground.proofs.Refusals.{agree_status}
 use Rattle.to_word.specs.contracts.write as write
 use Rattle.to_word.proofs.write.Kinds as write_kinds
 use Rattle.to_word.proofs.write.Reads as write_reads
@@ -13,4 +13,4 @@ use Rattle.to_word.proofs.write.Reads as write_reads
 module _ (κs : Lfts 2) (a : ArgsD write.signature κs) where
   pub write_agrees : (r r' : ResD write.signature κs) (s s' : AtExit (ended_of 2 write_kinds.ps write_kinds.r) κs) →
       write_reads.Post κs a r s → write_reads.Post κs a r' s' → (r ≡ r') × (s.1.0.now ≡ s'.1.0.now)
-  write_agrees r r' s s' p q = agree p.0 q.0
+  write_agrees r r' s s' p q = agree_status p.0 q.0

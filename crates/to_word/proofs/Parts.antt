@@ -11,7 +11,7 @@ use lib.Seq.{take_at, drop_at, drop-drop, take-append-le, drop-append-le, get_or
 use Rattle.bits.specs.Lists.{num, unpack, pack, Below}
 use Rattle.bits.specs.Places.{bit_at, number, field_at}
 use Rattle.bits.proofs.Below.{below_append, below_drop, below_replicate, below_get}
-use Rattle.bits.proofs.Lists.{unpack_below, unpack_length, pack_length}
+use Rattle.bits.proofs.Lists.{unpack_below, unpack_length}
 use Rattle.bits.proofs.Places.{number_move, field_is}
 use Rattle.bits.proofs.Joined.{bit_unpack, number_list, field_num}
 use Rattle.wide.specs.Held.{place_of, Held}
@@ -276,7 +276,6 @@ module _ (sh : List ℕ) (p s d : ℕ) (long : length sh ≡ sheet_end form1 p s
     pub place : place_of r ≡ size p s d
     pub step : r.at % 4 ≡ 0
     pub room : r.used < 32
-    pub len : length o ≡ length out
 
   pub laid : (v : View) → v ≡ sheet_view form1 p s → {out o₁ o₂ o₃ o₄ o₅ : List ℕ} {r₁ r₂ r₃ r₄ r₅ : Wide}
       → Puts sh v.multiplex 8 8 7 out none o₁ r₁
@@ -305,7 +304,6 @@ module _ (sh : List ℕ) (p s d : ℕ) (long : length sh ≡ sheet_end form1 p s
         place = omega (arith, q₅.moved, p₄);
         step = q₅.step ∙ q₄.step ∙ q₃.step ∙ q₂.step ∙ q₁.step;
         room = q₅.room;
-        len = q₅.len ∙ q₄.len ∙ q₃.len ∙ q₂.len ∙ q₁.len;
       }
 
 -- padded, and then sealed, it is the word of the lists
@@ -313,14 +311,7 @@ module _ (sh : List ℕ) (p s d : ℕ) (long : length sh ≡ sheet_end form1 p s
   word_padded : x ≡ pack 96 (padded (body (sheet_lists form1 p s d (unpack sh))) ++ replicate 18 0)
   word_padded = f _ (all_bits sh p s d long fits) (all_long sh p s d long fits) l.held (λ j h. zero_behind sh p s d long fits j (omega (arith, l.place)))
 
-  pub padded_bytes : length x ≡ 96
-  padded_bytes = ap length word_padded ∙ pack_length 96 _
-
   module _ {y : List ℕ} (g : Seals x y) where
     pub word_laid : y ≡ word_of (sheet_lists form1 p s d (unpack sh))
     unfolding word_of
     word_laid = g _ (padded_bits sh p s d long fits) (padded_long sh p s d long fits) word_padded
-
-    pub word_bytes : length y ≡ 96
-    unfolding word_of
-    word_bytes = ap length word_laid ∙ pack_length 96 _

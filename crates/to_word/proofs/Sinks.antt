@@ -5,9 +5,10 @@ use mathlib.Core.Path.{◌≡◌, refl, sym, ap, ◌∙◌}
 use mathlib.Core.List.{List, ◌++◌}
 use native.Mathlib.Nat.{mul-zero, mul-suc, mul-le-mul_left, mod-eq_of_lt, zero-add}
 use native.Mathlib.Numerals.{add-one}
+use native.Mathlib.Decide.{dec_lt}
 use native.Mathlib.Omega.{arith}
-use lib.ListN.{length, get_or, take, replicate, length-append, length-replicate, get_or-replicate, get_or-append}
-use lib.Seq.{take_at, get_or-append-add}
+use lib.ListN.{length, get_or, take, drop, replicate, length-append, length-drop, length-replicate, get_or-replicate, get_or-append}
+use lib.Seq.{take_at, get_or-append-add, get_or-take, length-take-le}
 use Rattle.ground.specs.Table.{tab}
 use Rattle.ground.proofs.Table.{tab_ext}
 use Rattle.bits.specs.Lists.{bits, num, unpack, pack, Below}
@@ -16,6 +17,11 @@ use Rattle.bits.proofs.Below.{below_append, below_replicate, below_get}
 use Rattle.bits.proofs.Lists.{bits_length, bits_below, num_bits, pack_length, unpack_pack}
 use Rattle.bits.proofs.Places.{number_cong, number_move, number_append, number_lt, field_is}
 use Rattle.bits.proofs.Joined.{bit_unpack, run_unpack, number_list, pack_at, packed_pack}
+use borrow.Rule.Slice.PartMut.{put_mid}
+use lib.Pow.{pow_pos}
+use Rattle.ground.specs.Outcome.{Is}
+use Rattle.wide.specs.Wide.{wider}
+use Rattle.wide.proofs.Widens.{wide_put}
 use Rattle.wide.specs.Held.{place_of, Held, Put}
 use Rattle.wide.specs.declared.Wide.{Wide}
 use Rattle.crc.specs.Crc.{crc_of, crc12_of}
@@ -64,58 +70,45 @@ zeros f i n h = number_zero f i n (λ k l. h (i + k) (omega arith))
 -- a sink that holds whole groups of four bytes, behind the place where zeros begin
 pub record Flushed (out : List ℕ) (s : Wide) (o : List ℕ) (r : Wide) : Type 0 where
   pub empty : r.used ≡ 0
-  pub fours : r.at % 4 ≡ 0
   pub within : r.at ≤ 96
   pub behind : place_of s ≤ place_of r
-  pub len : length o ≡ length out
+  pub len : length o ≡ 96
   pub keeps : (x : List ℕ) → Below 2 x → Held (bits_of x) out s → ((j : ℕ) → place_of s ≤ j → get_or x j 0 ≡ 0) → Held (bits_of x) o r
 
-module _ (out : List ℕ) (s : Wide) where
-  pub flushed_first : {o : List ℕ} {r : Wide} → s.used < 32 → s.at % 4 ≡ 0 → place_of s ≤ 750 → Put 0 (32 - s.used) out s o r → Flushed out s o r
-  flushed_first u m p q = record {
-    empty = omega (arith, q.moved, q.step, q.room);
-    fours = q.step ∙ m;
-    within = omega (arith, q.moved, q.step, q.room);
-    behind = omega (arith, q.moved);
-    len = q.len;
-    keeps = λ x b h z. q.keeps (bits_of x) (bits_lt x b) h (zeros (bits_of x) (place_of s) (32 - s.used) z);
-  }
-
-  pub flushed_more : {o o' : List ℕ} {r r' : Wide} → Flushed out s o r → r.at < 96 → Put 0 32 o r o' r' → Flushed out s o' r'
-  flushed_more {r = r} f l q = record {
-    empty = omega (arith, q.moved, q.step, q.room, f.empty, f.fours);
-    fours = q.step ∙ f.fours;
-    within = omega (arith, q.moved, q.step, q.room, f.empty, f.fours);
-    behind = omega (arith, q.moved, f.behind);
-    len = q.len ∙ f.len;
-    keeps = λ x b h z. q.keeps (bits_of x) (bits_lt x b) (f.keeps x b h z) (zeros (bits_of x) (place_of r) 32 (λ k l. z k (omega (arith, f.behind))));
-  }
-
-  -- four bytes more at each turn
-  pub flushed_step : {o o' : List ℕ} {r r' : Wide} → Flushed out s o r → Put 0 32 o r o' r' → r'.at ≡ r.at + 4
-  flushed_step f q = omega (arith, q.moved, q.step, q.room, f.empty, f.fours)
-
-module _ {out o : List ℕ} {s r : Wide} (f : Flushed out s o r) where
-  pub flushed_none : Flushed o r o r
-  flushed_none = record { empty = f.empty; fours = f.fours; within = f.within; behind = omega arith; len = refl; keeps = λ x b h z. h }
-
-  pub flushed_then : {o' : List ℕ} {r' : Wide} → Flushed o r o' r' → Flushed out s o' r'
-  flushed_then g = record {
-    empty = g.empty;
-    fours = g.fours;
-    within = g.within;
-    behind = omega (arith, f.behind, g.behind);
-    len = g.len ∙ f.len;
-    keeps = λ x b h z. g.keeps x b (f.keeps x b h z) (λ j l. z j (omega (arith, f.behind)));
-  }
+pub flushed : {out o : List ℕ} {s r : Wide} → s.used < 32 → s.at % 4 ≡ 0 → place_of s ≤ 750 → length out ≡ 96 → Is (wider out s 0 (32 - s.used)) r o → Flushed out s o r
+flushed {out} {o} {s} {r} u m p n e =
+    let q : Put 0 (32 - s.used) out s o r = wide_put 0 (32 - s.used) out s r o u (omega arith) (pow_pos (32 - s.used)) (omega arith) e in
+    record {
+      empty = omega (arith, q.moved, q.step, q.room);
+      within = omega (arith, q.moved, q.step, q.room);
+      behind = omega (arith, q.moved);
+      len = q.len ∙ n;
+      keeps = λ x b h z. q.keeps (bits_of x) (bits_lt x b) h (zeros (bits_of x) (place_of s) (32 - s.used) z);
+    }
 
 -- all bytes are there
-whole : (x o : List ℕ) (r : Wide) → length x ≡ 768 → length o ≡ 96 → 96 ≤ r.at → Held (bits_of x) o r → o ≡ pack 96 x
+whole : (x o : List ℕ) → length x ≡ 768 → length o ≡ 96 → ((k : ℕ) → k < 96 → get_or o k 0 ≡ number (bits_of x) (8 * k) 8) → o ≡ pack 96 x
 unfolding packed
-whole x o r n m l h = tab_ext (λ k. number (bits_of x) (8 * k) 8) 0 96 o m (λ k p. h.bytes k (omega arith)) ∙ packed_pack 96 x (omega arith)
+whole x o n m h = tab_ext (λ k. number (bits_of x) (8 * k) 8) 0 96 o m h ∙ packed_pack 96 x (omega arith)
 
-pub flushed_all : {out o : List ℕ} {s r : Wide} → length out ≡ 96 → Flushed out s o r → 96 ≤ r.at → Padded out s o
-flushed_all {o = o} {r = r} m f l = λ x b n h z. whole x o r n (f.len ∙ m) l (f.keeps x b h z)
+-- zeros behind what was flushed
+pub flushed_all : {out o : List ℕ} {s r : Wide} (m : List ℕ) → Flushed out s o r → length m ≡ 96 - r.at → ((k : ℕ) → k < length m → get_or m k 0 ≡ 0) → Padded out s (put_mid r.at (96 - r.at) o m)
+flushed_all {out} {o} {s} {r} m f l z = λ x b n h w.
+    let held : Held (bits_of x) o r = f.keeps x b h w in
+    let front : List ℕ = take r.at o in
+    let rest : List ℕ = drop (96 - r.at) (drop r.at o) in
+    let e : length front ≡ r.at = length-take-le r.at o (omega (arith, f.within, f.len)) in
+    let long : length (front ++ (m ++ rest)) ≡ 96 = simp (length-append, length-drop) (omega (arith, e, l, f.within, f.len)) in
+    whole x (front ++ (m ++ rest)) n long
+    (λ k p.
+    elim (dec_lt k r.at) [
+      | yes q ↦ get_or-append front (m ++ rest) 0 k (omega (arith, e)) ∙ get_or-take r.at o k 0 q ∙ held.bytes k q
+      | no q ↦ (
+          let i : length front + (k - r.at) ≡ k = omega (arith, e) in
+          ap (λ (u : ℕ). get_or (front ++ (m ++ rest)) u 0) (sym i) ∙ get_or-append-add front (m ++ rest) (k - r.at) 0
+          ∙ get_or-append m rest 0 (k - r.at) (omega (arith, l)) ∙ z (k - r.at) (omega (arith, l))
+          ∙ zeros (bits_of x) (8 * k) 8 (λ u g. w u (omega (arith, f.behind, f.empty))))
+    ])
 
 -- ---- the CRC
 module _ (x : List ℕ) (b : Below 2 x) (n : length x ≡ 750) where
@@ -192,8 +185,8 @@ pub seals : {w w' : List ℕ} {c acc : ℕ} {r : Wide} → length w ≡ 96 → c
     → Put (c * 64) 18 w (record { acc = acc; used = 14; at = 92 }) w' r → Seals w w'
 seals {w} {w'} {c} {acc} {r} m f g q = λ x b n e.
     let v : c * 64 ≡ number (bits_of (sealed x)) 750 18 = ap (λ (y : ℕ). y * 64) (f ∙ crc_is x b n w e) ∙ value_is x b n w e in
-    whole (sealed x) w' r (sealed_length x b n) (q.len ∙ m) (omega (arith, q.moved, q.step, q.room))
-    (q.keeps (bits_of (sealed x)) (bits_lt (sealed x) (sealed_below x b n)) (held x b n w e acc g) v)
+    whole (sealed x) w' (sealed_length x b n) (q.len ∙ m)
+    (λ k p. (q.keeps (bits_of (sealed x)) (bits_lt (sealed x) (sealed_below x b n)) (held x b n w e acc g) v).bytes k (omega (arith, q.moved, q.step, q.room)))
 
 pub crc_small : (w : List ℕ) → crc12_of w 0 750 < 4096
 unfolding crc12_of

@@ -27,8 +27,7 @@ Padded out s out' =
 abbrev pub Seals : List ℕ → List ℕ → Type 0
 Seals w w' = (x : List ℕ) → Below 2 x → length x ≡ 750 → w ≡ pack 96 (x ++ replicate 18 0) → w' ≡ pack 96 (sealed x)
 
--- a sheet as long as its counts say, which are within 750 bits, and 96 bytes
-pub record Stated (sh : List ℕ) (p s d : ℕ) (out : List ℕ) : Type 0 where
+-- a sheet as long as its counts say, which are within 750 bits
+pub record Stated (sh : List ℕ) (p s d : ℕ) : Type 0 where
   pub sheet : length sh ≡ sheet_end form1 p s d
   pub fits : size p s d ≤ 750
-  pub room : length out ≡ 96

@@ -8,7 +8,7 @@ ghost use Rattle.description.specs.Form1.{sheet_lists};
 ghost use Rattle.to_word.specs.Laid.{Puts, Padded, Seals, Stated};
 
 use ground::{SIGNALLING_LISTS, SIGNALLING_WORD};
-use views::{FORM1, MULTIPLEX, PIPE, SECTION, STREAM, TAIL, of_sheet};
+use views::{Counts, FORM1, MULTIPLEX, PIPE, SECTION, STREAM, TAIL, of_sheet};
 use wide::{Wide, put};
 
 // Records are copied by bytes.
@@ -16,7 +16,7 @@ const BYTE: u32 = 8;
 
 // n fields of so many bits each, which stand so far apart from a place of the sheet on.
 fn put_fields(
-    out: &mut [u8],
+    out: &mut [u8; SIGNALLING_WORD],
     sink: Wide,
     sheet: &[u8],
     at: u32,
@@ -24,37 +24,32 @@ fn put_fields(
     width: u32,
     n: u32,
 ) -> Wide
-    requires { (sink.used < 32) × (width ≤ 32) × (apart ≤ 32) × (n ≤ 4096) × (place_of sink + width * n ≤ 8 * length out.old) × (length out.old ≡ 96) }
+    requires { (sink.used < 32) × (width ≤ 32) × (apart ≤ 32) × (n ≤ 4096) × (place_of sink + width * n ≤ 8 * length out.old) }
     ensures { Puts sheet.now at apart width n out.old sink out.new result }
 {
     let mut s = sink;
-    let mut i: u32 = 0;
-    while i < n {
+    for i in 0..n {
         let v = bits::field(
             sheet,
             at as usize + apart as usize * i as usize,
             width as usize,
         );
         s = put(out, s, v as u64, width as usize);
-        i += 1;
     }
     s
 }
 
 // Zeros behind the lists, to the end of the word.
-fn pad(out: &mut [u8], sink: Wide)
-    requires { (sink.used < 32) × (sink.at % 4 ≡ 0) × (place_of sink ≤ 750) × (length out.old ≡ 96) }
+fn pad(out: &mut [u8; SIGNALLING_WORD], sink: Wide)
+    requires { (sink.used < 32) × (sink.at % 4 ≡ 0) × (place_of sink ≤ 750) }
     ensures { Padded out.old sink out.new }
 {
-    let mut s = put(out, sink, 0, 32 - sink.used);
-    while s.at < SIGNALLING_WORD {
-        s = put(out, s, 0, 32);
-    }
+    let s = put(out, sink, 0, 32 - sink.used);
+    out[s.at..].fill(0);
 }
 
 // The CRC over the first 750 bits behind them (table 14): the bits before it that share its last four bytes wait in a sink.
-fn seal(word: &mut [u8])
-    requires { length word.old ≡ 96 }
+fn seal(word: &mut [u8; SIGNALLING_WORD])
     ensures { Seals word.old word.new }
 {
     let crc = crc::crc12(word, 0, SIGNALLING_LISTS) as u64;
@@ -71,11 +66,11 @@ fn seal(word: &mut [u8])
 }
 
 // The word of a sheet's lists, into 96 bytes.
-pub fn lay(word: &mut [u8], sheet: &[u8], p: u8, s: u16, d: u16)
-    requires { Stated sheet.now p s d word.old }
-    ensures { word.new ≡ word_of (sheet_lists form1 p s d (unpack sheet.now)) }
+pub fn lay(word: &mut [u8; SIGNALLING_WORD], sheet: &[u8], counts: Counts)
+    requires { Stated sheet.now counts.p counts.s counts.d }
+    ensures { word.new ≡ word_of (sheet_lists form1 counts.p counts.s counts.d (unpack sheet.now)) }
 {
-    let v = of_sheet(FORM1, p, s);
+    let v = of_sheet(FORM1, counts.p, counts.s);
     let sink = Wide {
         acc: 0,
         used: 0,
@@ -89,7 +84,7 @@ pub fn lay(word: &mut [u8], sheet: &[u8], p: u8, s: u16, d: u16)
         v.pipes,
         BYTE,
         BYTE,
-        PIPE / BYTE * p as u32,
+        PIPE / BYTE * counts.p as u32,
     );
     let sink = put_fields(word, sink, sheet, v.tail, BYTE, BYTE, TAIL / BYTE);
     let sink = put_fields(
@@ -99,9 +94,17 @@ pub fn lay(word: &mut [u8], sheet: &[u8], p: u8, s: u16, d: u16)
         v.streams,
         BYTE,
         BYTE,
-        STREAM / BYTE * s as u32,
+        STREAM / BYTE * counts.s as u32,
     );
-    let sink = put_fields(word, sink, sheet, v.sections, v.apart, SECTION, d as u32);
+    let sink = put_fields(
+        word,
+        sink,
+        sheet,
+        v.sections,
+        v.apart,
+        SECTION,
+        counts.d as u32,
+    );
     pad(word, sink);
     seal(word);
 }

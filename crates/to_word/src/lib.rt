@@ -4,23 +4,21 @@
 mod lay;
 
 ghost use Rattle.ground.specs.Outcome.{Is};
+ghost use Rattle.ground.specs.Refusals.{status};
 ghost use Rattle.bits.specs.Lists.{Below};
 ghost use Rattle.description.specs.Form1.{writing};
 
-use sheets::answer::Answer;
+use ground::SIGNALLING_WORD;
+use ground::refusal::Refusal;
 
 // Writes the signalling word of a sheet into 96 bytes.
-pub fn write(sheet: &[u8], word: &mut [u8]) -> u8
-    ensures { Is (writing sheet.now word.old) result word.new × Below 256 sheet.now }
+pub fn write(sheet: &[u8], word: &mut [u8]) -> Result<(), Refusal>
+    ensures { Is (writing sheet.now word.old) (status result) word.new × Below 256 sheet.now }
 {
-    if word.len() != ground::SIGNALLING_WORD {
-        return ground::LENGTH_WRONG;
-    }
-    match forms::check(sheet) {
-        Answer::Accepted { p, s, d } => {
-            lay::lay(word, sheet, p, s, d);
-            0
-        }
-        Answer::Refused(n) => n,
-    }
+    let Some(word) = word.as_mut_array::<SIGNALLING_WORD>() else {
+        return Err(Refusal::LengthWrong);
+    };
+    let counts = forms::check(sheet)?;
+    lay::lay(word, sheet, counts);
+    Ok(())
 }

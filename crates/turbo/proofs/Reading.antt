@@ -19,6 +19,7 @@ use Rattle.order.specs.Order.{order}
 use Rattle.interleaver.specs.Read.{interleaved_bit, interleaved}
 use Rattle.turbo.specs.Lane.{second}
 use Rattle.constituent.specs.Six.{bit_of}
+use Rattle.tables.specs.declared.Plan.{Plan}
 use Rattle.turbo.specs.Stream.{Prepared}
 
 pub second_lt : (w : List ℕ) (n i : ℕ) → second w n i < 2
@@ -83,7 +84,7 @@ three_bytes f i a b c ea eb ec =
     omega arith
 
 -- ---- a word, and what encoder 2 reads of it
-module _ (p n : ℕ) (w z look : List ℕ) (k0 k1 : ℕ) (P : Prepared p n w z look k0 k1) (i : ℕ) where
+module _ (p n : ℕ) (w z : List ℕ) (t : Plan) (P : Prepared p n w z t) (i : ℕ) where
   first_word : (x : ℕ) → x ≡ get_or w (3 * i) 0 * 65536 + get_or w (3 * i + 1) 0 * 256 + get_or w (3 * i + 2) 0 → x ≡ number (bit_at w) (24 * i) 24
   first_word x e =
       e ∙ three_bytes (bit_at w) i _ _ _ (byte_number w (3 * i) (P.byte (3 * i))) (byte_number w (3 * i + 1) (P.byte (3 * i + 1))) (byte_number w (3 * i + 2) (P.byte (3 * i + 2)))
@@ -111,13 +112,13 @@ interleaved_lt w n i = either (ltb i n)
     either false = omega arith
 
 -- ---- three bytes of both as four times six bits
-module _ (p n : ℕ) (w z look : List ℕ) (k0 k1 : ℕ) (P : Prepared p n w z look k0 k1) (i x y : ℕ) (hi : i < 512)
+module _ (p n : ℕ) (w z : List ℕ) (t : Plan) (P : Prepared p n w z t) (i x y : ℕ) (hi : i < 512)
     (ex : x ≡ get_or w (3 * i) 0 * 65536 + get_or w (3 * i + 1) 0 * 256 + get_or w (3 * i + 2) 0) (ey : y ≡ get_or z (3 * i) 0 * 65536 + get_or z (3 * i + 1) 0 * 256 + get_or z (3 * i + 2) 0) where
   fx : x ≡ number (bit_at w) (24 * i) 24
-  fx = first_word p n w z look k0 k1 P i x ex
+  fx = first_word p n w z t P i x ex
 
   fy : y ≡ number (interleaved_bit w n) (24 * i) 24
-  fy = second_word p n w z look k0 k1 P i hi y ey
+  fy = second_word p n w z t P i hi y ey
 
   -- six of 24 bits
   six_of_lem : (f : ℕ → ℕ) → ((k : ℕ) → f k < 2) → (z j : ℕ) → j < 4 → z ≡ number f (24 * i) 24 → z / 2 ^ (18 - 6 * j) % 64 ≡ number f (24 * i + 6 * j) 6
@@ -142,6 +143,6 @@ module _ (p n : ℕ) (w z look : List ℕ) (k0 k1 : ℕ) (P : Prepared p n w z l
       whole : (v : ℕ) → v ≡ v / 1
       whole v = omega arith
 
-pub second_length : (p n : ℕ) (w z look : List ℕ) (k0 k1 : ℕ) → Prepared p n w z look k0 k1 → length z ≡ 1536
+pub second_length : (p n : ℕ) (w z : List ℕ) (t : Plan) → Prepared p n w z t → length z ≡ 1536
 unfolding interleaved
-second_length p n w z look k0 k1 P = ap length P.second ∙ packed_length (interleaved_bit w n) 1536
+second_length p n w z t P = ap length P.second ∙ packed_length (interleaved_bit w n) 1536

@@ -4,13 +4,14 @@ use Prim.Native.Nat.{ℕ, zero, suc, ◌+◌, ◌-◌, ◌*◌, ◌/◌, ◌%◌
 use mathlib.Core.Path.{◌≡◌, refl, sym, ap, ap₂, ◌∙◌, subst}
 use mathlib.Core.List.{List}
 use native.Mathlib.Nat.{add-zero, mul-one, not-suc-le-zero}
+use native.Mathlib.Decide.{ℕ_discrete}
 use native.Mathlib.Omega.{arith}
 use lib.Bits.{bit_xor}
 use lib.ListN.{length, get_or}
 use lib.Pow.{high, low}
-use borrow.Author.Tests.{lt-ltb}
+use borrow.Author.Tests.{lt-ltb, eq-eqb, ne_eqb}
 use Rattle.ground.specs.Outcome.{Outcome, Is}
-use Rattle.ground.proofs.Choice.{choose_true}
+use Rattle.ground.proofs.Choice.{choose_true, choose_false}
 use Rattle.bits.specs.Places.{bit_at, number}
 use Rattle.bits.proofs.Places.{bit_lt, number_lt, number_cong}
 use Rattle.wide.specs.Held.{place_of}
@@ -30,7 +31,8 @@ use Rattle.constituent.proofs.Linear.{Bits}
 use Rattle.constituent.specs.Six.{state_of, bit_of, after, registers, joint}
 use Rattle.constituent.specs.Segment.{digit_at, segment}
 use Rattle.tables.specs.Plan.{half_at, coded, plan_of}
-use Rattle.turbo.specs.Stream.{code_bit, told, chunked, thrice, both, Prepared, Sent}
+use Rattle.tables.specs.declared.Plan.{Plan}
+use Rattle.turbo.specs.Stream.{code_bit, told, half_bits, chunked, thrice, both, Prepared, Sent}
 use Rattle.constituent.specs.declared.State.{State}
 use Rattle.turbo.specs.declared.stream.Coder.{Coder}
 use Rattle.constituent.proofs.Segments.{segment_cong, segment_append, segment_number, spread_number}
@@ -202,12 +204,16 @@ sent_both p n w out c q S =
     subst (λ (x : ℕ). x < 64) (sym S.registers) (both_lt (state (bit_at w) (6 * q)) (state (second w n) (6 * q)) (state_bits (bit_at w) (6 * q)) (state_bits (second w n) (6 * q)))
 
 -- the registers after six bit periods are six bits, whatever was in the tables
-pub chunked_both : (out look : List ℕ) (o k : ℕ) (c : Coder) (u v : ℕ) (r : Coder) (m : List ℕ) → Is (chunked out look o k c u v) r m → r.both < 64
+pub chunked_both : (out : List ℕ) (t : Plan) (h : ℕ) (c : Coder) (u v : ℕ) (r : Coder) (m : List ℕ) → Is (chunked out t h c u v) r m → r.both < 64
 unfolding chunked
-chunked_both out look o k c u v r m K = subst (λ (x : ℕ). x < 64) (sym (ap (λ (d : Coder). d.both) K.answer)) (omega arith)
+chunked_both out t h c u v r m K = subst (λ (x : ℕ). x < 64) (sym (ap (λ (d : Coder). d.both) K.answer)) (omega arith)
 
-module _ (p n : ℕ) (w out look : List ℕ) (c : Coder) (q u v h k o : ℕ) (hp : p < 28) (L : look ≡ (plan_of (entries p)).look) (S : Sent p n w out c q) (hq : 6 * q + 6 ≤ n)
-    (eu : u ≡ number (bit_at w) (6 * q) 6) (ev : v ≡ number (second w n) (6 * q) 6) (eh : h ≡ q % 2) (ek : k ≡ total (half_at (entries p) h) 30) (eo : o ≡ 192 * h) where
+pub thrice_both : (out : List ℕ) (t : Plan) (c : Coder) (x y : ℕ) (r : Coder) (m : List ℕ) → Is (thrice out t c x y) r m → r.both < 64
+unfolding thrice
+thrice_both out t c x y r m K = chunked_both _ t 0 _ _ _ r m K
+
+module _ (p n : ℕ) (w out : List ℕ) (t : Plan) (c : Coder) (q u v h : ℕ) (hp : p < 28) (T : t ≡ plan_of (entries p)) (S : Sent p n w out c q) (hq : 6 * q + 6 ≤ n)
+    (eu : u ≡ number (bit_at w) (6 * q) 6) (ev : v ≡ number (second w n) (6 * q) 6) (eh : h ≡ q % 2) where
   abbrev whole : ℕ
   whole = u * 4096 + v * 64 + both (state (bit_at w) (6 * q)) (state (second w n) (6 * q))
 
@@ -217,17 +223,17 @@ module _ (p n : ℕ) (w out look : List ℕ) (c : Coder) (q u v h k o : ℕ) (hp
   v_small : v < 64
   v_small = subst (λ (x : ℕ). x < 64) (sym ev) (number_lt (second w n) (second_lt w n) (6 * q) 6)
 
-  at : (h i x : ℕ) → h < 2 → i < 3 → x < 64 → get_or look (192 * h + 64 * i + x) 0 ≡ coded (entries p) h (x * 2 ^ (6 * i))
-  at h i x hh hi hx = ap (λ (l : List ℕ). get_or l (192 * h + 64 * i + x) 0) L ∙ plan_at (entries p) h i x hh hi hx
+  at : (h i x : ℕ) → h < 2 → i < 3 → x < 64 → get_or t.look (192 * h + 64 * i + x) 0 ≡ coded (entries p) h (x * 2 ^ (6 * i))
+  at h i x hh hi hx = ap (λ (r : Plan). get_or r.look (192 * h + 64 * i + x) 0) T ∙ plan_at (entries p) h i x hh hi hx
 
-  told_is : told look o u v c.both ≡ coded (entries p) h whole
+  told_is : told t.look (192 * h) u v c.both ≡ coded (entries p) h whole
   told_is =
       let hh : h < 2 = omega arith in
       let b : ℕ = c.both in
-      let a2 : get_or look (o + 128 + u) 0 ≡ coded (entries p) h (u * 4096) = ap (λ (x : ℕ). get_or look (x + 128 + u) 0) eo ∙ at h 2 u hh (omega arith) u_small in
-      let a1 : get_or look (o + 64 + v) 0 ≡ coded (entries p) h (v * 64) = ap (λ (x : ℕ). get_or look (x + 64 + v) 0) eo ∙ at h 1 v hh (omega arith) v_small in
-      let a0 : get_or look (o + b) 0 ≡ coded (entries p) h b =
-      ap (λ (x : ℕ). get_or look (x + b) 0) (eo ∙ sym (add-zero (192 * h))) ∙ at h 0 b hh (omega arith) (sent_both p n w out c q S) ∙ ap (coded (entries p) h) (mul-one b) in
+      let a2 : get_or t.look (192 * h + 128 + u) 0 ≡ coded (entries p) h (u * 4096) = at h 2 u hh (omega arith) u_small in
+      let a1 : get_or t.look (192 * h + 64 + v) 0 ≡ coded (entries p) h (v * 64) = at h 1 v hh (omega arith) v_small in
+      let a0 : get_or t.look (192 * h + b) 0 ≡ coded (entries p) h b =
+      ap (λ (x : ℕ). get_or t.look (x + b) 0) (sym (add-zero (192 * h))) ∙ at h 0 b hh (omega arith) (sent_both p n w out c q S) ∙ ap (coded (entries p) h) (mul-one b) in
       let j1 : coded (entries p) h (u * 4096 + v * 64) ≡ bit_xor (coded (entries p) h (u * 4096)) (coded (entries p) h (v * 64)) =
       coded_sum (entries p) h (u * 4096) (v * 64) (u * 4096 + v * 64) (joins_apart 12 u (v * 64) (omega (arith, v_small))) in
       let m : (u * 64 + v) * 64 ≡ u * 4096 + v * 64 = omega arith in
@@ -235,24 +241,33 @@ module _ (p n : ℕ) (w out look : List ℕ) (c : Coder) (q u v h k o : ℕ) (hp
       coded_sum (entries p) h ((u * 64 + v) * 64) b ((u * 64 + v) * 64 + b) (joins_apart 6 (u * 64 + v) b (sent_both p n w out c q S)) in
       ap₂ bit_xor (ap₂ bit_xor a2 a1 ∙ sym j1 ∙ ap (coded (entries p) h) (sym m)) a0 ∙ sym j0 ∙ ap (coded (entries p) h) (ap₂ ◌+◌ m S.registers)
 
-  value_is : told look o u v c.both / 64 ≡ number (code_bit p n w) (place_of c.sink) k
+  -- as many bits are sent as the half's places count
+  bits_are : half_bits t h ≡ total (half_at (entries p) h) 30
+  unfolding plan_of
+  bits_are =
+      ap (λ (r : Plan). half_bits r h) T ∙ elim (ℕ_discrete h 0) [
+        | yes e ↦ choose_true _ _ (eq-eqb h 0 e) ∙ sym (ap (λ (j : ℕ). total (half_at (entries p) j) 30) e)
+        | no e ↦ choose_false _ _ (ne_eqb h 0 e) ∙ ap (λ (j : ℕ). total (half_at (entries p) j) 30) {x = 1} {y = h} (omega arith)
+      ]
+
+  value_is : told t.look (192 * h) u v c.both / 64 ≡ number (code_bit p n w) (place_of c.sink) (half_bits t h)
   value_is =
       ap (λ (x : ℕ). x / 64) told_is ∙ (coded_parts (bit_at w) (second w n) (bit_lt w) (second_lt w n) (6 * q) u v eu ev (entries p) h).0
       ∙ segment_sent p n w q h hp hq eh (joint whole) (joint_data (bit_at w) (second w n) (bit_lt w) (second_lt w n) (6 * q) u v eu ev)
-      ∙ ap₂ (number (code_bit p n w)) (sym S.at) (sym ek)
+      ∙ ap₂ (number (code_bit p n w)) (sym S.at) (sym bits_are)
 
-  sent_to : total (copies p n) (30 * (q + 1)) ≡ total (copies p n) (30 * q) + k
+  sent_to : total (copies p n) (30 * (q + 1)) ≡ total (copies p n) (30 * q) + half_bits t h
   sent_to =
       let e : 30 * (q + 1) ≡ 30 * q + 30 = omega arith in
-      ap (total (copies p n)) e ∙ total_add (copies p n) (30 * q) 30 ∙ ap (λ (x : ℕ). total (copies p n) (30 * q) + x) (sym (ek ∙ bits_sent p n w q h hp hq eh))
+      ap (total (copies p n)) e ∙ total_add (copies p n) (30 * q) 30 ∙ ap (λ (x : ℕ). total (copies p n) (30 * q) + x) (sym (bits_are ∙ bits_sent p n w q h hp hq eh))
 
-  pub sent_more : (r : Coder) (m : List ℕ) → Is (chunked out look o k c u v) r m → Sent p n w m r (q + 1) × (length m ≡ length out)
+  pub sent_more : (r : Coder) (m : List ℕ) → Is (chunked out t h c u v) r m → Sent p n w m r (q + 1) × (length m ≡ length out)
   unfolding chunked
   sent_more r m K =
       let e : 6 * q + 6 ≡ 6 * (q + 1) = omega arith in
-      let z : ℕ = told look o u v c.both in
-      let P = wide_put (z / 64) k out c.sink r.sink m S.room (omega (arith, ek, half_most (entries p) h))
-      (subst (λ (x : ℕ). x < 2 ^ k) (sym value_is) (number_lt (code_bit p n w) (code_bit_lem p n w) (place_of c.sink) k))
+      let z : ℕ = told t.look (192 * h) u v c.both in
+      let P = wide_put (z / 64) (half_bits t h) out c.sink r.sink m S.room (omega (arith, bits_are, half_most (entries p) h))
+      (subst (λ (x : ℕ). x < 2 ^ half_bits t h) (sym value_is) (number_lt (code_bit p n w) (code_bit_lem p n w) (place_of c.sink) (half_bits t h)))
       (omega (arith, S.at, S.full, sent_to, total_mono (copies p n) (30 * (q + 1)) (places n) (omega arith)))
       (record { answer = ap (λ (x : Coder). x.sink) K.answer; memory = K.memory }) in (
         record {
@@ -269,54 +284,43 @@ module _ (p n : ℕ) (w out look : List ℕ) (c : Coder) (q u v h k o : ℕ) (hp
       )
 
 -- ---- the six groups of a turn: those of half 0, and those of half 1
-module _ (p n : ℕ) (w z look : List ℕ) (k0 k1 : ℕ) (P : Prepared p n w z look k0 k1) (out : List ℕ) (c : Coder) (q u v : ℕ) (S : Sent p n w out c q) (hq : 6 * q + 6 ≤ n)
+module _ (p n : ℕ) (w z : List ℕ) (t : Plan) (P : Prepared p n w z t) (out : List ℕ) (c : Coder) (q u v : ℕ) (S : Sent p n w out c q) (hq : 6 * q + 6 ≤ n)
     (eu : u ≡ number (bit_at w) (6 * q) 6) (ev : v ≡ number (second w n) (6 * q) 6) where
   hp : p < 28
   hp = (coded_bounds p n P.coded).0
 
-  bits0 : k0 ≡ total (half_at (entries p) 0) 30
-  unfolding plan_of
-  bits0 = P.bits0
-
-  bits1 : k1 ≡ total (half_at (entries p) 1) 30
-  unfolding plan_of
-  bits1 = P.bits1
-
-  even_gives : q % 2 ≡ 0 → (r : Coder) (m : List ℕ) → Is (chunked out look 0 k0 c u v) r m → Sent p n w m r (q + 1) × (length m ≡ length out)
-  even_gives e = sent_more p n w out look c q u v 0 k0 0 hp P.looks S hq eu ev (sym e) bits0 refl
-
-  odd_gives : q % 2 ≡ 1 → (r : Coder) (m : List ℕ) → Is (chunked out look 192 k1 c u v) r m → Sent p n w m r (q + 1) × (length m ≡ length out)
-  odd_gives e = sent_more p n w out look c q u v 1 k1 192 hp P.looks S hq eu ev (sym e) bits1 refl
+  pub half_gives : (h : ℕ) → h ≡ q % 2 → (r : Coder) (m : List ℕ) → Is (chunked out t h c u v) r m → Sent p n w m r (q + 1) × (length m ≡ length out)
+  half_gives h e = sent_more p n w out t c q u v h hp P.tables S hq eu ev e
 
 -- ---- three bytes of both: their upper eighteen bits, and the last six
-module _ (p n : ℕ) (w z look : List ℕ) (k0 k1 : ℕ) (P : Prepared p n w z look k0 k1) (i x y : ℕ)
+module _ (p n : ℕ) (w z : List ℕ) (t : Plan) (P : Prepared p n w z t) (i x y : ℕ)
     (ex : x ≡ get_or w (3 * i) 0 * 65536 + get_or w (3 * i + 1) 0 * 256 + get_or w (3 * i + 2) 0) (ey : y ≡ get_or z (3 * i) 0 * 65536 + get_or z (3 * i + 1) 0 * 256 + get_or z (3 * i + 2) 0)
     (room : 24 * i + 18 ≤ n) where
   hi : i < 512
   hi = omega (arith, (coded_bounds p n P.coded).2)
 
-  pub eighteen_sent : (out : List ℕ) (c : Coder) → Sent p n w out c (4 * i) → (r : Coder) (m : List ℕ) → Is (thrice out look k0 k1 c x y) r m
+  pub eighteen_sent : (out : List ℕ) (c : Coder) → Sent p n w out c (4 * i) → (r : Coder) (m : List ℕ) → Is (thrice out t c x y) r m
       → Sent p n w m r (4 * i + 3) × (length m ≡ length out)
   unfolding thrice
   eighteen_sent out c S r m K =
-      let s0 = sixes p n w z look k0 k1 P i x y hi ex ey 0 (omega arith) (omega arith) in
-      let s1 = sixes p n w z look k0 k1 P i x y hi ex ey 1 (omega arith) (omega arith) in
-      let s2 = sixes p n w z look k0 k1 P i x y hi ex ey 2 (omega arith) (omega arith) in
-      let a : Outcome Coder (List ℕ) = chunked out look 0 k0 c (x / 262144 % 64) (y / 262144 % 64) in
-      let b : Outcome Coder (List ℕ) = chunked a.memory look 192 k1 a.answer (x / 4096 % 64) (y / 4096 % 64) in
+      let s0 = sixes p n w z t P i x y hi ex ey 0 (omega arith) (omega arith) in
+      let s1 = sixes p n w z t P i x y hi ex ey 1 (omega arith) (omega arith) in
+      let s2 = sixes p n w z t P i x y hi ex ey 2 (omega arith) (omega arith) in
+      let a : Outcome Coder (List ℕ) = chunked out t 0 c (x / 262144 % 64) (y / 262144 % 64) in
+      let b : Outcome Coder (List ℕ) = chunked a.memory t 1 a.answer (x / 4096 % 64) (y / 4096 % 64) in
       let S0 : Sent p n w out c (4 * i + 0) = subst (Sent p n w out c) (sym (add-zero (4 * i))) S in
-      let A = even_gives p n w z look k0 k1 P out c (4 * i + 0) (x / 262144 % 64) (y / 262144 % 64) S0 (omega arith) s0.0 s0.1 (omega arith) a.answer a.memory (record { answer = refl; memory = refl }) in
+      let A = half_gives p n w z t P out c (4 * i + 0) (x / 262144 % 64) (y / 262144 % 64) S0 (omega arith) s0.0 s0.1 0 (omega arith) a.answer a.memory (record { answer = refl; memory = refl }) in
       let S1 : Sent p n w a.memory a.answer (4 * i + 1) = subst (Sent p n w a.memory a.answer) {x = 4 * i + 0 + 1} {y = 4 * i + 1} (omega arith) A.0 in
-      let B = odd_gives p n w z look k0 k1 P a.memory a.answer (4 * i + 1) (x / 4096 % 64) (y / 4096 % 64) S1 (omega arith) s1.0 s1.1 (omega arith) b.answer b.memory (record { answer = refl; memory = refl }) in
+      let B = half_gives p n w z t P a.memory a.answer (4 * i + 1) (x / 4096 % 64) (y / 4096 % 64) S1 (omega arith) s1.0 s1.1 1 (omega arith) b.answer b.memory (record { answer = refl; memory = refl }) in
       let S2 : Sent p n w b.memory b.answer (4 * i + 2) = subst (Sent p n w b.memory b.answer) {x = 4 * i + 1 + 1} {y = 4 * i + 2} (omega arith) B.0 in
-      let C = even_gives p n w z look k0 k1 P b.memory b.answer (4 * i + 2) (x / 64 % 64) (y / 64 % 64) S2 (omega arith) s2.0 s2.1 (omega arith) r m K in
+      let C = half_gives p n w z t P b.memory b.answer (4 * i + 2) (x / 64 % 64) (y / 64 % 64) S2 (omega arith) s2.0 s2.1 0 (omega arith) r m K in
       (subst (Sent p n w m r) {x = 4 * i + 2 + 1} {y = 4 * i + 3} (omega arith) C.0, C.1 ∙ B.1 ∙ A.1)
 
-  pub last_sent : 24 * i + 24 ≤ n → (out : List ℕ) (c : Coder) → Sent p n w out c (4 * i + 3) → (r : Coder) (m : List ℕ) → Is (chunked out look 192 k1 c (x % 64) (y % 64)) r m
+  pub last_sent : 24 * i + 24 ≤ n → (out : List ℕ) (c : Coder) → Sent p n w out c (4 * i + 3) → (r : Coder) (m : List ℕ) → Is (chunked out t 1 c (x % 64) (y % 64)) r m
       → Sent p n w m r (4 * (i + 1)) × (length m ≡ length out)
   last_sent l out c S r m K =
-      let s = last_six p n w z look k0 k1 P i x y hi ex ey l in
-      let A = odd_gives p n w z look k0 k1 P out c (4 * i + 3) (x % 64) (y % 64) S (omega arith) s.0 s.1 (omega arith) r m K in
+      let s = last_six p n w z t P i x y hi ex ey l in
+      let A = half_gives p n w z t P out c (4 * i + 3) (x % 64) (y % 64) S (omega arith) s.0 s.1 1 (omega arith) r m K in
       (subst (Sent p n w m r) {x = 4 * i + 3 + 1} {y = 4 * (i + 1)} (omega arith) A.0, A.1)
 
 -- an outcome from that of a call before

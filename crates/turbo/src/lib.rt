@@ -6,40 +6,36 @@ mod stream;
 ghost use Rattle.std.specs.Prelude.{◌≡◌, ◌≤◌};
 ghost use Rattle.ground.specs.Choice.{first_of};
 ghost use Rattle.ground.specs.Outcome.{Is};
+ghost use Rattle.ground.specs.Refusals.{status};
 ghost use Rattle.turbo.specs.Encode.{faults, encoded};
 
-use ground::{LENGTH_WRONG, PAYLOAD_WORD, SIGNALLING_WORD, SPARE_SET};
+use ground::refusal::Refusal;
+use ground::{PAYLOAD_WORD, SIGNALLING_WORD};
 
-// Why a word of a block of n bits is not coded into so many bytes, 0 if it is.
-fn refusal(pattern: usize, n: usize, word: &[u8], bytes: usize) -> u8
+// Whether a word of a block of n bits is coded into so many bytes, or why not.
+fn refusal(pattern: usize, n: usize, word: &[u8], bytes: usize) -> Result<(), Refusal>
     requires { n ≤ 12282 }
-    ensures { result ≡ first_of (faults pattern n word.now bytes) }
+    ensures { status result ≡ first_of (faults pattern n word.now bytes) }
 {
-    let unfit = patterns::unfit(pattern, n);
-    if unfit != 0 {
-        return unfit;
-    }
+    patterns::unfit(pattern, n)?;
     if bytes != patterns::code_length(pattern, n) / 8 {
-        return LENGTH_WRONG;
+        return Err(Refusal::LengthWrong);
     }
     if bits::field(word, n, 6) != 0 {
-        return SPARE_SET;
+        return Err(Refusal::SpareSet);
     }
-    0
+    Ok(())
 }
 
-// Codes an infoword under a pattern into the lent codeword and returns 0; or returns why not, and leaves the codeword as it was.
-pub fn encode(pattern: u32, infoword: &[u8], codeword: &mut [u8]) -> u8
-    ensures { Is (encoded pattern infoword.now codeword.old) result codeword.new }
+// Codes an infoword under a pattern into the lent codeword; or says why not, and leaves the codeword as it was.
+pub fn encode(pattern: u32, infoword: &[u8], codeword: &mut [u8]) -> Result<(), Refusal>
+    ensures { Is (encoded pattern infoword.now codeword.old) (status result) codeword.new }
 {
     let p = pattern as usize;
     let n = patterns::block_by(PAYLOAD_WORD, SIGNALLING_WORD, infoword.len());
-    let r = refusal(p, n, infoword, codeword.len());
-    if r != 0 {
-        return r;
-    }
-    let mut second = [0u8; 1536];
+    refusal(p, n, infoword, codeword.len())?;
+    let mut second = [0u8; PAYLOAD_WORD];
     interleaver::interleave(n, infoword, &mut second);
-    crate::stream::code(p, n, infoword, &second, codeword);
-    0
+    stream::code(p, n, infoword, &second, codeword);
+    Ok(())
 }

@@ -5,6 +5,13 @@
 
 use std::io;
 
+// The words, in bytes, and the longest codeword.
+const PAYLOAD_WORD: usize = 1536;
+
+const SIGNALLING_WORD: usize = 96;
+
+const LONGEST: usize = 7680;
+
 // The number after x in a sequence (xorshift).
 fn next(x: u32) -> u32 {
     let a = x ^ (x << 13);
@@ -12,32 +19,20 @@ fn next(x: u32) -> u32 {
     b ^ (b << 5)
 }
 
-// The low byte.
-fn low(x: u32) -> u8 {
-    (x % 256) as u8
-}
-
 // Fills a word with the low bytes of the sequence, from the number after 1 on.
 fn fill(word: &mut [u8]) {
-    let mut x: u32 = 1;
-    let mut i = 0;
-    while i < word.len() {
+    let mut x = 1;
+    for byte in word.iter_mut() {
         x = next(x);
-        word[i] = low(x);
-        i += 1;
+        *byte = (x % 256) as u8;
     }
 }
 
 // Clears the spare bits of a word, its last six.
 fn clear_spare(word: &mut [u8]) {
-    let n = word.len();
-    if 0 < n {
-        word[n - 1] = word[n - 1] & 0xC0;
+    if let Some(last) = word.last_mut() {
+        *last &= 0xC0;
     }
-}
-
-fn print_number(rt: &impl Print, name: &str, n: u64) -> io::Result<()> {
-    print!(rt; "{name}{n}")
 }
 
 // Eight bytes in hex, by two places of 32 bits.
@@ -50,23 +45,18 @@ fn print_bytes(
 ) -> io::Result<()> {
     let first = bits::field(codeword, one, 32);
     let second = bits::field(codeword, two, 32);
-    print!(rt; "{name}{first:08x}{second:08x}")
+    print!(rt; " {name} {first:08x}{second:08x}")
 }
 
-// The line of a codeword of eight to 7,680 bytes.
+// The line of a codeword of eight bytes or more.
 fn print_line(rt: &impl Print, block: usize, pattern: u32, codeword: &[u8]) -> io::Result<()> {
     let n = codeword.len();
-    if n < 8 {
+    if !(8..=LONGEST).contains(&n) {
         return Ok(());
     }
-    if 7680 < n {
-        return Ok(());
-    }
-    print_number(rt, "block ", block as u64)?;
-    print_number(rt, " pattern ", pattern as u64)?;
-    print_number(rt, " bytes ", n as u64)?;
-    print_bytes(rt, " first ", codeword, 0, 32)?;
-    print_bytes(rt, " last ", codeword, 8 * n - 64, 8 * n - 32)?;
+    print!(rt; "block {block} pattern {pattern} bytes {n}")?;
+    print_bytes(rt, "first", codeword, 0, 32)?;
+    print_bytes(rt, "last", codeword, 8 * n - 64, 8 * n - 32)?;
     let crc12 = crc::crc12(codeword, 0, 8 * n);
     println!(rt; " crc12 {crc12:03x}")
 }
@@ -79,40 +69,37 @@ fn print_coded(
     word: &[u8],
     codeword: &mut [u8],
 ) -> io::Result<()> {
-    let refusal = turbo::encode(pattern, word, codeword);
-    if refusal != 0 {
-        return println!(rt; "refused {refusal}");
+    match turbo::encode(pattern, word, codeword) {
+        Ok(()) => print_line(rt, block, pattern, codeword),
+        Err(refusal) => println!(rt; "refused {}", refusal.number()),
     }
-    print_line(rt, block, pattern, codeword)
 }
 
 // The case of a word and a pattern, in as many bytes as the codeword has.
 fn print_case(rt: &impl Print, pattern: u32, word: &[u8]) -> io::Result<()> {
-    let block = patterns::block_by(1536, 96, word.len());
+    let block = patterns::block_by(PAYLOAD_WORD, SIGNALLING_WORD, word.len());
     let n = patterns::code_length(pattern as usize, block) / 8;
-    if 7680 < n {
+    if LONGEST < n {
         return Ok(());
     }
-    let mut room = [0u8; 7680];
+    let mut room = [0u8; LONGEST];
     print_coded(rt, block, pattern, word, &mut room[..n])
 }
 
 // The cases of a word under each pattern.
 fn print_cases(rt: &impl Print, word: &[u8]) -> io::Result<()> {
-    let mut pattern = 0;
-    while pattern < 28 {
+    for pattern in 0..28 {
         print_case(rt, pattern, word)?;
-        pattern += 1;
     }
     Ok(())
 }
 
 fn main(rt: HostRuntime) -> io::Result<()> {
-    let mut payload = [0u8; 1536];
+    let mut payload = [0u8; PAYLOAD_WORD];
     fill(&mut payload);
     clear_spare(&mut payload);
     print_cases(&rt, &payload)?;
-    let mut signalling = [0u8; 96];
+    let mut signalling = [0u8; SIGNALLING_WORD];
     fill(&mut signalling);
     clear_spare(&mut signalling);
     print_case(&rt, 0, &signalling)

@@ -1,13 +1,16 @@
 -- Laws of rows by their places: how many they are and which, and within the bytes they are the rows that are cut of the bits.
 -- Assumes nothing.
-use Prim.Native.Nat.{ℕ, suc, ◌+◌, ◌*◌, ◌≤◌, ◌<◌}
+use Prim.Native.Nat.{ℕ, zero, suc, ◌+◌, ◌*◌, ◌≤◌, ◌<◌}
 use mathlib.Core.Path.{◌≡◌, refl, sym, ap, ap₂, ◌∙◌}
+use mathlib.Core.Bool.{Bool, true, false, ◌||◌}
 use mathlib.Core.List.{List, [], ◌∷◌, ◌++◌, map}
 use native.Mathlib.Nat.{add-zero, add_assoc, zero-add, mul_comm}
 use native.Mathlib.Numerals.{add-one}
 use native.Mathlib.Omega.{arith}
 use lib.ListN.{length, get_or, take, drop}
 use lib.Seq.{drop-drop}
+use Rattle.std.specs.List.{list_any, range_with_len}
+use Rattle.ground.specs.Choice.{either, any}
 use Rattle.ground.specs.Table.{tab}
 use Rattle.ground.proofs.Table.{length_tab, get_or_tab, tab_snoc, map_tab, tab_ext, tab_cong, take_tab}
 use Rattle.bits.specs.Lists.{unpack}
@@ -73,3 +76,13 @@ unfolding rows_at row_at row_from fields_at
 first_fields k t apart n w at =
     map_tab (λ r. get_or r 0 0) (λ i. row_from (k ∷ t) w (at + apart * i) 0) 0 n
     ∙ tab_cong (λ i. field_at w (at + apart * i + 0) k) (λ i. field_at w (at + apart * i) k) 0 n (λ i h. ap (λ (x : ℕ). field_at w x k) (add-zero (at + apart * (0 + i))))
+
+-- ---- a search over places is one over what stands there
+or_either : (a : Bool) {b c : Bool} → b ≡ c → (a || b) ≡ either a c
+or_either true e = refl
+or_either false e = e
+
+pub any_tab : {A : Type 0} (t : A → Bool) (f : ℕ → A) (i n : ℕ) → list_any (λ k. t (f k)) (range_with_len i n) ≡ any t (tab f i n)
+unfolding any tab
+any_tab t f i zero = refl
+any_tab t f i (suc n) = or_either (t (f i)) (ap (λ (k : ℕ). list_any (λ x. t (f x)) (range_with_len k n)) (add-one i) ∙ any_tab t f (suc i) n)

@@ -22,6 +22,14 @@ pub const ABOVE: u32 = 4;
 // The header of a sheet of form 1, in bytes.
 pub const FORM1: u8 = 12;
 
+// How many payload pipes, streams and sections there are (01: p, s and d).
+#[derive(Clone, Copy, Debug, PartialEq, Eq)]
+pub struct Counts {
+    pub p: u8,
+    pub s: u16,
+    pub d: u16,
+}
+
 // The first bit of each list, and how far apart sections are.
 #[derive(Clone, Copy)]
 pub struct View {
@@ -37,14 +45,14 @@ pub struct View {
 pub fn of_word(p: u8, s: u16) -> View
     ensures { result ≡ word_view p s }
 {
-    let tail = MULTIPLEX + PIPE * p as u32;
+    let tail = MULTIPLEX + PIPE * u32::from(p);
     let streams = tail + TAIL;
     View {
         multiplex: 0,
         tail,
         pipes: MULTIPLEX,
         streams,
-        sections: streams + STREAM * s as u32,
+        sections: streams + STREAM * u32::from(s),
         apart: SECTION,
     }
 }
@@ -53,23 +61,23 @@ pub fn of_word(p: u8, s: u16) -> View
 pub fn of_sheet(h: u8, p: u8, s: u16) -> View
     ensures { result ≡ sheet_view h p s }
 {
-    let multiplex = 8 * h as u32;
+    let multiplex = 8 * u32::from(h);
     let tail = multiplex + MULTIPLEX;
     let pipes = tail + TAIL;
-    let streams = pipes + PIPE * p as u32;
+    let streams = pipes + PIPE * u32::from(p);
     View {
         multiplex,
         tail,
         pipes,
         streams,
-        sections: streams + STREAM * s as u32 + ABOVE,
+        sections: streams + STREAM * u32::from(s) + ABOVE,
         apart: SECTION + ABOVE,
     }
 }
 
-// The bit behind the lists of a word with p payload pipes, s streams and d sections (table 14).
-pub fn lists_end(p: u8, s: u16, d: u16) -> u32
-    ensures { result ≡ size p s d }
+// The bit behind the lists of a word with these counts (table 14).
+pub fn lists_end(counts: Counts) -> u32
+    ensures { result ≡ size counts.p counts.s counts.d }
 {
-    of_word(p, s).sections + SECTION * d as u32
+    of_word(counts.p, counts.s).sections + SECTION * u32::from(counts.d)
 }

@@ -13,7 +13,6 @@ use Rattle.sheets.specs.Owned.{owned_at, tail_owned_at}
 use Rattle.sheets.specs.declared.owned.Share.{Share}
 use Rattle.sheets.proofs.Owning.{owned_small, tail_small}
 use Rattle.steps.specs.Steps.{onward, with_tail}
-use Rattle.walk.specs.Steps.{found_of}
 use Rattle.walk.specs.Tour.{p_of, s_of, d_of, tour_of}
 use Rattle.walk.specs.declared.Toured.{Toured}
 
@@ -57,14 +56,14 @@ module _ (w : List ℕ) where
   place₆ = onward place₅ all.d 12
 
   abbrev pub found : Toured
-  found = found_of version pipes all place₆
+  found = record { version = version; counts = record { p = pipes; s = all.s; d = all.d }; end = place₆ }
 
 -- ---- and these are what stands in the word
 abbrev share : ℕ → ℕ → Share
 share s d = record { s = s; d = d }
 
 abbrev toured : ℕ → ℕ → ℕ → ℕ → ℕ → Toured
-toured v p s d e = record { version = v; p = p; s = s; d = d; end = e }
+toured v p s d e = record { version = v; counts = record { p = p; s = s; d = d }; end = e }
 
 module _ (w : List ℕ) where
   pipes_are : pipes w ≡ p_of w
@@ -118,7 +117,5 @@ module _ (w : List ℕ) where
 
   -- the walk ends with what stands in the word
   pub found_is : found w ≡ tour_of w
-  unfolding found_of tour_of row_at row_from
-  found_is =
-      let p : pipes w % 256 ≡ p_of w = omega (arith, pipes_are, pipes_few) in
-      λ i. toured (field_at w 0 4) (p i) (streams_are i) (sections_are i) (sixth i)
+  unfolding tour_of row_at row_from
+  found_is = λ i. toured (field_at w 0 4) (pipes_are i) (streams_are i) (sections_are i) (sixth i)

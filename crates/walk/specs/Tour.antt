@@ -23,8 +23,6 @@ d_of w = (owned_at w 56 (p_of w)).d
 unfoldable pub tour_of : List ℕ → Toured
 tour_of w = record {
   version = sig_pipe_ver (row_at table15 w 0);
-  p = p_of w;
-  s = s_of w;
-  d = d_of w;
+  counts = record { p = p_of w; s = s_of w; d = d_of w };
   end = size (p_of w) (s_of w) (d_of w);
 }

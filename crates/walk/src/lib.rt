@@ -1,24 +1,19 @@
 // The walk over the bits of a lent word: one reader that carries the word and its place, made once, and moved on from list to list.
 #![tactic(auto)]
 
-mod plain;
 mod reader;
 
 ghost use Rattle.std.specs.Prelude.{◌≡◌};
 ghost use Rattle.walk.specs.Tour.{tour_of};
 
-use crate::plain::found;
 use crate::reader::Reader;
-use steps::with_tail;
-use views::{PIPE, SECTION, STREAM, TAIL};
+use views::{Counts, PIPE, SECTION, STREAM, TAIL};
 
-// What a walk finds: Sig_Pipe_Ver, the payload pipes, the streams and the sections of a word, and the bit behind its lists.
+// What a walk finds: Sig_Pipe_Ver, how many payload pipes, streams and sections a word has, and the bit behind its lists.
 #[derive(Clone, Copy)]
 pub struct Toured {
     pub version: u32,
-    pub p: u8,
-    pub s: u16,
-    pub d: u16,
+    pub counts: Counts,
     pub end: u32,
 }
 
@@ -39,8 +34,16 @@ pub fn tour(word: &[u8]) -> Toured
     let tail = r.tail();
     let r = r.moved(1, TAIL);
     // streams (table 18), then sections (table 19)
-    let all = with_tail(own, tail);
+    let all = steps::with_tail(own, tail);
     let r = r.moved(all.s, STREAM);
     let r = r.moved(all.d, SECTION);
-    found(version, p, all, r.at)
+    Toured {
+        version,
+        counts: Counts {
+            p: p as u8,
+            s: all.s,
+            d: all.d,
+        },
+        end: r.at,
+    }
 }

@@ -1,10 +1,12 @@
 -- Laws of puts: a whole number of 32 bits into an empty sink, and two puts as one.
 -- Assumes nothing.
 use Prim.Native.Nat.{ℕ, suc, ◌+◌, ◌*◌, ◌/◌, ◌%◌, ◌^◌, ◌≤◌, ◌<◌}
-use mathlib.Core.Path.{◌≡◌, sym, ap, ◌∙◌}
+use mathlib.Core.Path.{◌≡◌, refl, sym, ap, ◌∙◌}
 use mathlib.Core.List.{List, [], ◌∷◌, ◌++◌}
 use native.Mathlib.Omega.{arith}
-use lib.ListN.{length, take, drop, set}
+use borrow.Rule.Slice.PartMut.{put_mid}
+use Rattle.std.proofs.lemmas.Slice.{put_mid-paste}
+use lib.ListN.{length, take, drop}
 use lib.Seq.{sets-eq}
 use lib.Pow.{high, low}
 use Rattle.ground.specs.Outcome.{Is}
@@ -17,17 +19,32 @@ use Rattle.wide.specs.Held.{place_of, Put}
 use Rattle.wide.specs.declared.Wide.{Wide}
 use Rattle.wide.proofs.Widens.{wider_whole}
 
+-- the low 32 bits of a number in four bytes
+abbrev pub four_bytes : ℕ → List ℕ
+four_bytes x = x / 16777216 % 256 ∷ x / 65536 % 256 ∷ x / 256 % 256 ∷ x % 256 ∷ []
+
+-- the bytes of the low 32 bits alone
+pub low_bytes : (x : ℕ) → four_bytes (x % 4294967296) ≡ four_bytes x
+low_bytes x = same (omega arith) (omega arith) (omega arith) (omega arith)
+  where
+    same : {a b c d a' b' c' d' : ℕ} → a ≡ a' → b ≡ b' → c ≡ c' → d ≡ d' → ◌≡◌ {A = List ℕ} (a ∷ b ∷ c ∷ d ∷ []) (a' ∷ b' ∷ c' ∷ d' ∷ [])
+    same e f g h = cc
+
 -- four stores, one behind the other
-pub stored_is : (l : List ℕ) (i x : ℕ) → i + 4 ≤ length l → stored l i x ≡ take i l ++ pack 4 (bits 32 x) ++ drop (i + 4) l
+stored_bytes : (l : List ℕ) (i x : ℕ) → i + 4 ≤ length l → stored l i x ≡ take i l ++ four_bytes x ++ drop (i + 4) l
 unfolding stored
-stored_is l i x h =
+stored_bytes l i x h =
     let e1 : i + 1 ≡ suc i = omega arith in
     let e2 : i + 2 ≡ suc (suc i) = omega arith in
     let e3 : i + 3 ≡ suc (suc (suc i)) = omega arith in
-    let s : set (set (set (set l i (x / 16777216 % 256)) (i + 1) (x / 65536 % 256)) (i + 2) (x / 256 % 256)) (i + 3) (x % 256)
-    ≡ take i l ++ (x / 16777216 % 256 ∷ x / 65536 % 256 ∷ x / 256 % 256 ∷ x % 256 ∷ []) ++ drop (i + 4) l =
-    rw (e1, e2, e3) (sets-eq (x / 16777216 % 256 ∷ x / 65536 % 256 ∷ x / 256 % 256 ∷ x % 256 ∷ []) l i h) in
-    s ∙ ap (λ (b : List ℕ). take i l ++ b ++ drop (i + 4) l) (sym (pack_32 x))
+    rw (e1, e2, e3) (sets-eq (four_bytes x) l i h)
+
+-- four bytes copied to their place
+pub stored_at_once : (l b : List ℕ) (i k x : ℕ) → i + 4 ≤ length l → k ≡ 4 → b ≡ four_bytes x → put_mid i k l b ≡ stored l i x
+stored_at_once l b i k x h ek eb = put_mid-paste i k l b (four_bytes x) 4 eb (sym ek) refl ∙ sym (stored_bytes l i x h)
+
+pub stored_is : (l : List ℕ) (i x : ℕ) → i + 4 ≤ length l → stored l i x ≡ take i l ++ pack 4 (bits 32 x) ++ drop (i + 4) l
+stored_is l i x h = stored_bytes l i x h ∙ ap (λ (b : List ℕ). take i l ++ b ++ drop (i + 4) l) (sym (pack_32 x))
 
 -- a sink in which nothing waits
 abbrev pub empty : ℕ → Wide

@@ -3,7 +3,7 @@
 use Prim.Native.Nat.{ℕ, ◌+◌, ◌-◌, ◌*◌, ◌/◌, ◌%◌, ◌^◌, ◌≤◌, ◌<◌}
 use mathlib.Core.Path.{◌≡◌, refl, sym, ap, ap₂, ◌∙◌, subst, subst₂}
 use mathlib.Core.List.{List}
-use native.Mathlib.Nat.{add-mul, mul_assoc, mul-le-mul_left}
+use native.Mathlib.Nat.{add-mul, mul_assoc}
 use native.Mathlib.Decide.{dec_lt, ℕ_discrete}
 use native.Mathlib.Omega.{arith}
 use lib.ListN.{length, get_or, set, length-set}
@@ -104,12 +104,6 @@ shifted_is a k h = shl_exact {a = a % 4294967296} 32 k 64 (omega arith) (omega a
 
 pub shifted_widened : (s : Wide) (v k : ℕ) → k ≤ 32 → s.acc % 4294967296 * 2 ^ k % 2 ^ 64 + v % 4294967296 ≡ widened s v k
 shifted_widened s v k h = ap (λ (x : ℕ). x + v % 4294967296) (shifted_is s.acc k h)
-
-pub shifted_room : (a k : ℕ) → k ≤ 32 → a % 4294967296 * 2 ^ k % 2 ^ 64 ≤ 18446744069414584320
-shifted_room a k h =
-    let A : ℕ = a % 4294967296 in
-    let p : A * 2 ^ k ≤ A * 4294967296 = mul-le-mul_left A (pow_mono {i = k} {j = 32} h) in
-    omega (arith, p, shifted_is a k h)
 
 module _ (v k : ℕ) (out : List ℕ) (s : Wide) (acc : ℕ) (hu : s.used < 32) (hk : k ≤ 32) (hv : v < 2 ^ k) (e : acc ≡ s.acc % 4294967296 * 2 ^ k + v) where
   -- the low bits with those behind them

@@ -1,11 +1,15 @@
 // The wide sink: up to 32 bits go in at once, and four bytes are stored at a time.
 #![tactic(auto)]
 
-ghost use Rattle.std.specs.Prelude.{◌≡◌, ◌+◌, ◌≤◌, length};
-ghost use Rattle.wide.specs.Wide.{stored, wider};
+ghost use Rattle.std.specs.Prelude.{◌≡◌};
+ghost use Rattle.wide.specs.Wide.{wider};
 ghost use Rattle.ground.specs.Outcome.{Is};
 
+// 2 ^ 32: of a number that goes in, and of what waits, the low 32 bits are taken.
+const LOW: u64 = 0x1_0000_0000;
+
 // Where the next bit goes: `at` bytes are stored, and the low `used` bits of `acc` are to follow.
+// The buffer stands beside it and is no field: behind a loop the check does not tie what a struct holds to the buffer that was lent.
 #[derive(Clone, Copy)]
 pub struct Wide {
     pub acc: u64,
@@ -13,15 +17,17 @@ pub struct Wide {
     pub at: usize,
 }
 
-// Four bytes: the low 32 bits of x.
-fn store(out: &mut [u8], at: usize, x: u64)
-    requires { at + 4 ≤ length out.old }
-    ensures { out.new ≡ stored out.old at x }
-{
-    out[at] = (x / 16777216 % 256) as u8;
-    out[at + 1] = (x / 65536 % 256) as u8;
-    out[at + 2] = (x / 256 % 256) as u8;
-    out[at + 3] = (x % 256) as u8;
+impl Wide {
+    // An empty sink, whose first bit goes to the top of a byte.
+    pub fn new(at: usize) -> Wide
+        ensures { result ≡ record { acc = 0; used = 0; at = at } }
+    {
+        Wide {
+            acc: 0,
+            used: 0,
+            at,
+        }
+    }
 }
 
 // The k bits of v more, at most 32 of them. A buffer without room for four bytes takes nothing.
@@ -31,20 +37,18 @@ pub fn put(out: &mut [u8], s: Wide, v: u64, k: usize) -> Wide
     if 32 < k {
         return s;
     }
-    let acc = ((s.acc % 4294967296) << k) + v % 4294967296;
+    let acc = ((s.acc % LOW) << k) + v % LOW;
     let used = s.used % 32 + k;
     let at = s.at;
     if used < 32 {
         return Wide { acc, used, at };
     }
-    if out.len() < 4 {
-        return s;
-    }
-    if out.len() - 4 < at {
+    if out.len() < 4 || out.len() - 4 < at {
         return s;
     }
     let left = used - 32;
-    store(out, at, acc >> left);
+    let word = ((acc >> left) % LOW) as u32;
+    out[at..at + 4].copy_from_slice(&word.to_be_bytes());
     Wide {
         acc,
         used: left,

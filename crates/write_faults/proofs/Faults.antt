@@ -1,8 +1,8 @@
 -- Laws of the writer's refusals: the facts that lead to each number, and what a number says.
 -- Assumes nothing.
-use Prim.Native.Nat.{ℕ, ◌≤◌, ◌<◌}
+use Prim.Native.Nat.{ℕ, ◌*◌, ◌≤◌, ◌<◌}
 use mathlib.Core.Bool.{Bool, true, false, not}
-use mathlib.Core.Path.{◌≡◌, sym, ap, ◌∙◌}
+use mathlib.Core.Path.{◌≡◌, refl, sym, ap, ◌∙◌}
 use native.Mathlib.Decide.{dec_lt, ℕ_discrete}
 use native.Mathlib.Omega.{arith}
 use borrow.Author.Tests.{eq-eqb, ne_eqb, lt-ltb, le-ltb, ltb-false}
@@ -104,3 +104,25 @@ pub packets_clear : (count null : ℕ) → 0 ≡ first_of (packet_faults count n
 packets_clear count null e =
     let a = all_clear (packet_faults count null) tt (sym e) in
     (ltb-false _ _ a.0, no_difference _ _ a.1.0)
+
+-- what is known of a stream type that may be written, and so many bytes that are lent for its payload
+pub record Lent (kind count null bytes : ℕ) : Type 0 where
+  pub kind_is : kind ≤ 2
+  pub count_is : kind ≡ 2 → count ≤ 8
+  pub null_is : kind ≡ 2 → null ≡ 188
+  pub bytes_is : bytes ≡ lent_bytes kind count
+
+pub lent_empty : (kind count null bytes : ℕ) → kind ≡ 0 → bytes ≡ 0 → Lent kind count null bytes
+lent_empty kind count null bytes k b = record { kind_is = omega arith; count_is = λ e. absurd (omega arith); null_is = λ e. absurd (omega arith); bytes_is = rw (k, b) refl }
+
+pub lent_transparent : (kind count null bytes : ℕ) → kind ≡ 1 → bytes ≡ 1532 → Lent kind count null bytes
+lent_transparent kind count null bytes k b = record { kind_is = omega arith; count_is = λ e. absurd (omega arith); null_is = λ e. absurd (omega arith); bytes_is = rw (k, b) refl }
+
+pub lent_transport : (kind count null bytes : ℕ) → kind ≡ 2 → 0 ≡ first_of (packet_faults count null) → bytes ≡ 188 * count → Lent kind count null bytes
+lent_transport kind count null bytes k p b =
+    let c = packets_clear count null p in
+    record { kind_is = omega arith; count_is = λ e. c.0; null_is = λ e. c.1; bytes_is = rw (k, b) refl }
+
+-- what was asked of a write of which nothing is refused
+pub allowed : {kind count payload null word : ℕ} → 0 ≡ write_refusal kind count payload null word → Writable kind count payload null word
+allowed {kind} {count} {payload} {null} {word} e = writable kind count payload null word (sym e)

@@ -1,19 +1,21 @@
 // Transport stream packets (clause 4.3.3): what is refused of their count, and of the null packet.
 ghost use Rattle.std.specs.Prelude.{◌≡◌};
 ghost use Rattle.ground.specs.Choice.{first_of};
+ghost use Rattle.ground.specs.Refusals.{status};
 ghost use Rattle.write_faults.specs.Inside.{packet_faults};
 
 use crate::{TS_PACKET, TS_PACKETS};
+use ground::refusal::Refusal;
 
-// The refusal of a packet count and of the null packet's length.
-pub fn refusal(count: u32, null: usize) -> u8
-    ensures { result ≡ first_of (packet_faults count null) }
+// Whether so many packets and a null packet of this length are taken, or why not.
+pub fn refusal(count: u32, null: usize) -> Result<(), Refusal>
+    ensures { status result ≡ first_of (packet_faults count null) }
 {
     if TS_PACKETS < count {
-        return ground::COUNT_ABOVE_8;
+        return Err(Refusal::CountAbove8);
     }
     if null != TS_PACKET {
-        return ground::LENGTH_WRONG;
+        return Err(Refusal::LengthWrong);
     }
-    0
+    Ok(())
 }

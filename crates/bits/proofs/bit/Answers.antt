@@ -1,6 +1,5 @@
 -- `bits::bit` meets its contract. Assumes nothing.
 use Rattle.bits.specs.Places.{bit_at}
-use borrow.Author.Rules.{rules}
 use Rattle.bits.proofs.bit.Goals as goal
 
 pub returns : goal.returns

@@ -4,7 +4,6 @@ use mathlib.Core.Path.{◌≡◌, ap₂, ◌∙◌}
 use native.Mathlib.Omega.{arith}
 use lib.ListN.{get_or}
 use Rattle.bits.specs.Places.{bit_at}
-use borrow.Author.Rules.{rules}
 use Rattle.bits.proofs.bit_from.Goals as goal
 
 pub returns : goal.returns

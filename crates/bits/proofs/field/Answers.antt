@@ -1,5 +1,5 @@
 -- `bits::field` meets its contract: after i bits the number is that of the i bits, and fits them. Assumes nothing.
-use Prim.Native.Nat.{ℕ, ◌+◌, ◌-◌, ◌*◌, ◌^◌, ◌≤◌, ◌<◌}
+use Prim.Native.Nat.{ℕ, ◌+◌, ◌*◌, ◌<◌}
 use mathlib.Core.Path.{◌≡◌, sym, ap, ap₂, ◌∙◌}
 use native.Mathlib.Omega.{arith}
 use borrow.Author.Rules.{rules}
@@ -17,9 +17,6 @@ pub loop-i-init : goal.loop-i-init
 unfolding number
 loop-i-init c = search rules
 
-pub overflow_mul-v : goal.overflow_mul-v
-overflow_mul-v c = omega (arith, pow_mono {i = c.loop-i.i} {j = 31} (omega arith))
-
 pub overflow_add-v : goal.overflow_add-v
 overflow_add-v c =
     let b : c.bit_from.result < 2 = rw c.bit_from.ensures (bit_lt _ _) in
@@ -30,11 +27,11 @@ loop-i-preserved c =
     let a = c.args in
     let l = c.loop-i in
     let e : l.v * 2 + c.bit_from.result ≡ number (bit_at a.s.now) a.at (l.i + 1) =
-    ap₂ (λ (x y : ℕ). x * 2 + y) l.invariant.1 c.bit_from.ensures ∙ sym (number_more (bit_at a.s.now) a.at l.i) in
-    (omega arith, e, rw e (number_lt (bit_at a.s.now) (bit_lt a.s.now) a.at (l.i + 1)))
+    ap₂ (λ (x y : ℕ). x * 2 + y) l.invariant.0 c.bit_from.ensures ∙ sym (number_more (bit_at a.s.now) a.at l.i) in
+    (e, rw e (number_lt (bit_at a.s.now) (bit_lt a.s.now) a.at (l.i + 1)))
 
 pub returns : goal.returns
 returns c =
     let a = c.args in
     let e : c.loop-i.i ≡ a.n = omega arith in
-    c.loop-i.invariant.1 ∙ ap (number (bit_at a.s.now) a.at) e ∙ sym (field_is a.s.now a.at a.n (omega arith))
+    c.loop-i.invariant.0 ∙ ap (number (bit_at a.s.now) a.at) e ∙ sym (field_is a.s.now a.at a.n (omega arith))

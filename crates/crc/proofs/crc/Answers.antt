@@ -36,10 +36,6 @@ loop-i-preserved c =
       rw (e, t.ensures.0) (clock_lt a.width a.poly l.r (f (a.at + l.i)) c.requires.0 c.requires.2),
     )
 
-pub overflow_sub-result : goal.overflow_sub-result
-overflow_sub-result c =
-    omega (arith, twice_top c.args.width c.requires.0)
-
 pub returns : goal.returns
 unfolding crc_of
 returns c =

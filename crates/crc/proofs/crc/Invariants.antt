@@ -1,5 +1,5 @@
 -- `crc::crc` meets its contract: after i bits the register is that of the i bits, and within its stages. Assumes nothing.
-use Prim.Native.Nat.{◌-◌, ◌^◌, ◌≤◌, ◌<◌}
+use Prim.Native.Nat.{◌^◌, ◌≤◌, ◌<◌}
 use mathlib.Core.Path.{◌≡◌}
 use Rattle.ground.specs.Table.{tab}
 use Rattle.bits.specs.Places.{bit_at}
@@ -8,6 +8,3 @@ use Rattle.crc.proofs.crc.Given as goal
 
 abbrev pub invariant-loop-i : goal.invariant-loop-i
 invariant-loop-i l = (l.i ≤ l.n) × (l.r ≡ clocks l.top l.poly l.ones (tab (bit_at l.word) l.at l.i)) × (l.r < 2 ^ l.width)
-
-abbrev pub decreases-loop-i : goal.decreases-loop-i
-decreases-loop-i l = l.n - l.i

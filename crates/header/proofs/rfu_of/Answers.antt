@@ -1,31 +1,38 @@
 -- `header::rfu_of` meets its contract. Assumes nothing.
 use Prim.Native.Nat.{ℕ, ◌-◌}
 use mathlib.Core.Path.{◌≡◌, sym, ap, ◌∙◌}
+use mathlib.Core.List.{List}
+use native.Mathlib.Omega.{arith}
 use Rattle.bits.specs.Places.{field_at}
-use Rattle.infoword.specs.Suffix.{has_parity, kind_of, lead_bits}
-use Rattle.infoword.proofs.Ending.{lead_long, lead_short, rfu_of_3, rfu_of_other}
+use Rattle.infoword.specs.Suffix.{kind_of, lead_bits, rfu_bits, rfu_of}
+use Rattle.infoword.specs.Types.{stream_type}
+use Rattle.infoword.specs.declared.StreamType.TheVariants.{TransportStream, IpStream}
+use Rattle.infoword.proofs.Types.{number_of}
+use Rattle.infoword.proofs.Closing.{has_not}
+use Rattle.infoword.proofs.Ending.{lead_short, rfu_of_other}
 use Rattle.header.proofs.rfu_of.Goals as goal
 
-pub returns-then-kind-eq-IP_STREAM : goal.returns-then-kind-eq-IP_STREAM
-returns-then-kind-eq-IP_STREAM c =
-    let w = c.args.word.now in
-    let f : c.field.result ≡ field_at w 12228 20 = c.field.ensures in
-    f ∙ sym (rfu_of_3 w (sym c.requires ∙ c.if-kind-eq-IP_STREAM.true))
+-- where it stands in a word of a type
+rfu_at : (w : List ℕ) (k : ℕ) → kind_of w ≡ k → field_at w (12260 - lead_bits k) (rfu_bits k) ≡ rfu_of w
+unfolding rfu_of
+rfu_at w k e = ap (λ (x : ℕ). field_at w (12260 - lead_bits x) (rfu_bits x)) (sym e)
 
-pub returns-then-has_parity : goal.returns-then-has_parity
-returns-then-has_parity c =
-    let other : kind_of c.args.word.now ≡ 3 → ⊥ = λ t. c.if-kind-eq-IP_STREAM.false (c.requires ∙ t) in
-    let told : c.has_parity.result ≡ has_parity (kind_of c.args.word.now) = c.has_parity.ensures ∙ ap has_parity c.requires in
-    let w = c.args.word.now in
-    let e : lead_bits (kind_of w) ≡ 32 = lead_long (kind_of w) (sym (told) ∙ c.if-has_parity.true) in
-    let f : c.field-then-has_parity.result ≡ field_at w 12228 32 = c.field-then-has_parity.ensures in
-    f ∙ ap (λ (r : ℕ). field_at w (12260 - r) r) (sym e) ∙ sym (rfu_of_other w (other))
+pub returns-in-IpStream : goal.returns-in-IpStream
+unfolding rfu_bits lead_bits
+returns-in-IpStream c =
+    let three : c.args.kind ≡ 3 = omega (arith, number_of c.args.kind c.from.result IpStream c.from.ensures c.in-IpStream.is) in
+    c.field.ensures ∙ rfu_at c.args.word.now 3 (sym c.requires ∙ three)
 
-pub returns : goal.returns
-returns c =
-    let other : kind_of c.args.word.now ≡ 3 → ⊥ = λ t. c.if-kind-eq-IP_STREAM.false (c.requires ∙ t) in
-    let told : c.has_parity.result ≡ has_parity (kind_of c.args.word.now) = c.has_parity.ensures ∙ ap has_parity c.requires in
+pub returns-in-TransportStream : goal.returns-in-TransportStream
+unfolding rfu_bits lead_bits
+returns-in-TransportStream c =
+    let two : c.args.kind ≡ 2 = omega (arith, number_of c.args.kind c.from.result TransportStream c.from.ensures c.in-TransportStream.is) in
+    c.field-in-TransportStream.ensures ∙ rfu_at c.args.word.now 2 (sym c.requires ∙ two)
+
+pub returns-in_default : goal.returns-in_default
+returns-in_default c =
     let w = c.args.word.now in
-    let e : lead_bits (kind_of w) ≡ 4 = lead_short (kind_of w) (sym (told) ∙ c.if-has_parity.false) in
-    let f : c.field-2.result ≡ field_at w 12256 4 = c.field-2.ensures in
-    f ∙ ap (λ (r : ℕ). field_at w (12260 - r) r) (sym e) ∙ sym (rfu_of_other w (other))
+    let not-2 : kind_of w ≡ 2 → ⊥ = λ e. c.in_default.not-TransportStream (c.from.ensures ∙ ap stream_type (c.requires ∙ e)) in
+    let not-3 : kind_of w ≡ 3 → ⊥ = λ e. c.in_default.not-IpStream (c.from.ensures ∙ ap stream_type (c.requires ∙ e)) in
+    let lead : lead_bits (kind_of w) ≡ 4 = lead_short (kind_of w) (has_not (kind_of w) not-2 not-3) in
+    c.field-in_default.ensures ∙ ap (λ (r : ℕ). field_at w (12260 - r) r) (sym lead) ∙ sym (rfu_of_other w not-3)

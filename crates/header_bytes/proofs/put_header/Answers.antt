@@ -1,12 +1,12 @@
--- `header_bytes::put_header` meets its contract: four numbers fill the 16 bytes. Assumes nothing.
-use Prim.Native.Nat.{◌+◌, ◌*◌}
-use mathlib.Core.Path.{sym, ◌∙◌}
-use native.Mathlib.Omega.{arith}
-use borrow.Author.Tests.{eq-eqb, ne_eqb}
-use lib.ListN.{length}
-use Rattle.ground.proofs.Choice.{choose_true, choose_false}
+-- `header_bytes::put_header` meets its contract: four runs of bytes in 16 zeros. Assumes nothing.
+use Prim.Native.Nat.{ℕ}
+use mathlib.Core.Path.{◌≡◌, sym, ap, ◌∙◌}
+use borrow.Author.Tests.{ne_eqb}
+use lib.ListN.{length, replicate}
+use Rattle.ground.proofs.Choice.{choose_false}
+use Rattle.std.specs.Int.{w16, w32, to_be_bytes}
 use Rattle.header_bytes.specs.Bytes.{header_with, header_put}
-use Rattle.header_bytes.proofs.Stores.{sixteen, sixteen_are}
+use Rattle.header_bytes.proofs.Stores.{sixteen, header_put_lem}
 use Rattle.header_bytes.proofs.put_header.Goals as goal
 
 pub returns-then-out-ne-HEADER : goal.returns-then-out-ne-HEADER
@@ -16,13 +16,11 @@ returns-then-out-ne-HEADER c =
     sym (choose_false (header_with a.h a.handed) a.out.now (ne_eqb (length a.out.now) 16 (λ e. c.if-out-ne-HEADER.true e)))
 
 pub returns : goal.returns
-unfolding header_put
 returns c =
     let h = c.args.h in
-    sixteen c.args.out.now c.put32.new.out c.put32-2.new.out c.put32-3.new.out c.put32-4.new.out
-    h.rfu (h.id * 0x1000000 + h.kind * 0x10000 + h.version * 0x100 + h.parity) (h.address * 0x10000 + c.args.handed) 0
-    (omega arith) (omega arith) (omega arith) (omega arith)
-    c.put32.ensures c.put32-2.ensures c.put32-3.ensures c.put32-4.ensures
-    ∙ sixteen_are h c.args.handed (omega (arith, c.struct_known-1.given)) (omega (arith, c.struct_known-2-1.given)) (omega (arith, c.struct_known-3-1.given))
-    (omega (arith, c.struct_known-4-1.given)) (omega (arith, c.struct_known-5-1.given)) (omega (arith, c.ranges.handed))
-    ∙ sym (choose_true (header_with h c.args.handed) c.args.out.now (eq-eqb (length c.args.out.now) 16 c.if-out-ne-HEADER.false))
+    let n : length c.args.out.now ≡ 16 = c.if-out-ne-HEADER.false in
+    let zeros : c.fill.new.self ≡ replicate 16 0 = c.fill.ensures.after (λ y p. p) ∙ ap (λ (k : ℕ). replicate k 0) n in
+    let rfu : c.copy_from_slice.new.self ≡ to_be_bytes w32 h.rfu = c.copy_from_slice.ensures.after ∙ c.to_be_bytes.ensures in
+    let address : c.copy_from_slice-3.new.self ≡ to_be_bytes w16 h.address = c.copy_from_slice-3.ensures.after ∙ c.to_be_bytes-2.ensures in
+    let handed : c.copy_from_slice-4.new.self ≡ to_be_bytes w16 c.args.handed = c.copy_from_slice-4.ensures.after ∙ c.to_be_bytes-3.ensures in
+    sixteen h c.args.handed _ _ _ _ _ zeros rfu c.copy_from_slice-2.ensures.after address handed ∙ sym (header_put_lem h c.args.handed c.args.out.now n)

@@ -7,17 +7,14 @@ use Rattle.order.specs.Order.{parameter}
 use Rattle.interleaver.proofs.Reading.{read_is, pairs_long}
 use Rattle.interleaver.proofs.payload.Goals as goal
 
-pub gather-requires : goal.gather-requires
+pub invariant_of-block-clause-paired : goal.invariant_of-block-clause-paired
 unfolding parameter
-gather-requires c =
-    let u = c.unpack in
-    (inl refl, (pairs_long c.args.word.now (replicate 12288 0) u.new.d (length-replicate {A = ℕ} 12288 0) u.ensures).1, refl)
+invariant_of-block-clause-paired c = (pairs_long c.args.word.now (replicate 12288 0) c.unpack.new.d (length-replicate {A = ℕ} 12288 0) c.unpack.ensures).1
 
 pub returns : goal.returns
 unfolding parameter
 returns c =
-    let a = c.args in
-    let u = c.unpack in
-    let g = c.gather in
-    let p = pairs_long a.word.now (replicate 12288 0) u.new.d (length-replicate {A = ℕ} 12288 0) u.ensures in
-    read_is 12282 (inl refl) a.word.now u.new.d g.new.out p.0 g.ensures
+    let w = c.args.word.now in
+    let d = c.unpack.new.d in
+    let p = pairs_long w (replicate 12288 0) d (length-replicate {A = ℕ} 12288 0) c.unpack.ensures in
+    read_is 12282 (inl refl) w d _ p.0 c.gather.ensures

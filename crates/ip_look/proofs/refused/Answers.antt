@@ -1,32 +1,22 @@
 -- `ip_look::refused` meets its contract. Assumes nothing.
-use mathlib.Core.Path.{◌≡◌, sym}
+use mathlib.Core.Path.{sym, ap, ◌∙◌}
+use mathlib.Core.List.{List}
+use Prim.Native.Nat.{ℕ}
 use native.Mathlib.Omega.{arith}
-use lib.ListN.{length, take}
+use lib.ListN.{take}
 use lib.Seq.{length-take-le}
-use Rattle.ip_look.proofs.Looks.{look_word, look_memory, look_payload}
+use Rattle.ip.specs.Read.{reading}
+use Rattle.ip.specs.Memory.{open_in}
+use Rattle.ip_look.proofs.Looks.{look_payload}
 use Rattle.ip_look.proofs.refused.Goals as goal
 
-pub returns-then-word-ne-PAYLOAD_WORD : goal.returns-then-word-ne-PAYLOAD_WORD
-returns-then-word-ne-PAYLOAD_WORD c =
-    let a = c.args in
-    look_word a.word.now a.memory.now c.if-word-ne-PAYLOAD_WORD.true
-
-pub returns-then-memory-ne-ROOM : goal.returns-then-memory-ne-ROOM
-returns-then-memory-ne-ROOM c =
-    let a = c.args in
-    look_memory a.word.now a.memory.now c.if-memory-ne-ROOM.true
-
 pub slice_bounds-payload_refused-end : goal.slice_bounds-payload_refused-end
-slice_bounds-payload_refused-end c =
-    let payload_is : length (take 1504 c.args.word.now) ≡ 1504 = length-take-le 1504 c.args.word.now (omega (arith, c.if-word-ne-PAYLOAD_WORD.false)) in
-    sym (payload_is)
-
-pub payload_refused-requires : goal.payload_refused-requires
-payload_refused-requires c =
-    let payload_is : length (take 1504 c.args.word.now) ≡ 1504 = length-take-le 1504 c.args.word.now (omega (arith, c.if-word-ne-PAYLOAD_WORD.false)) in
-    (payload_is, c.if-memory-ne-ROOM.false)
+slice_bounds-payload_refused-end c = sym (length-take-le 1504 c.args.word.now (omega (arith, c.if-word-ne-PAYLOAD_WORD.false)))
 
 pub returns : goal.returns
 returns c =
-    let a = c.args in
-    look_payload a.word.now a.memory.now c.payload_refused.result c.field-address.result c.if-word-ne-PAYLOAD_WORD.false c.if-memory-ne-ROOM.false c.field-address.ensures c.payload_refused.ensures
+    let w = c.args.word.now in
+    let a = c.field-address.result in
+    let whole = c.in-Some.ensures.cases in
+    look_payload w c.args.memory.now c.payload_refused.result a c.if-word-ne-PAYLOAD_WORD.false whole.long c.field-address.ensures
+    (c.payload_refused.ensures ∙ ap (λ (m : List ℕ). (reading (open_in m) a (take 1504 w)).refused) whole.same)

@@ -1,11 +1,9 @@
 -- `ip_open::lost` meets its contract. Assumes nothing.
-use native.Mathlib.Omega.{arith}
 use Rattle.ip_open.proofs.Drops.{lost_refused, lost_done}
 use Rattle.ip_open.proofs.lost.Goals as goal
 
 pub returns-then-memory-ne-ROOM : goal.returns-then-memory-ne-ROOM
-returns-then-memory-ne-ROOM c = lost_refused c.args.memory.now (λ e. omega (arith, c.if-memory-ne-ROOM.true))
+returns-then-memory-ne-ROOM c = lost_refused c.args.memory.now c.if-memory-ne-ROOM.true
 
 pub returns : goal.returns
-returns c =
-    lost_done c.args.memory.now c.fill.new.out (omega (arith, c.if-memory-ne-ROOM.false)) c.fill.ensures
+returns c = lost_done c.args.memory.now c.fill.new.self c.if-memory-ne-ROOM.false (c.fill.ensures.after (λ y e. e))

@@ -8,7 +8,8 @@ use Rattle.ip_open.proofs.open_in.Goals as goal
 pub returns : goal.returns
 returns c =
     let m = c.args.memory.now in
-    let size : c.two-length.result ≡ two_at m 4 = c.two-length.ensures.0 ∙ ap₂ (λ (h l : ℕ). h * 256 + l) c.byte.ensures c.byte-2.ensures in
-    let sofar : c.two-sofar.result ≡ two_at m 6 = c.two-sofar.ensures.0 ∙ ap₂ (λ (h l : ℕ). h * 256 + l) c.byte-3.ensures c.byte-4.ensures in
-    read_one_by_one m c.is_open.result c.byte-mark.result c.byte-kind.result c.byte-error.result c.byte-spare.result c.two-length.result c.two-sofar.result
-    c.byte-mark.ensures c.byte-kind.ensures c.byte-error.ensures c.byte-spare.ensures size sofar c.is_open.ensures
+    let size : c.two.result ≡ two_at m 4 = c.two.ensures.0 ∙ ap₂ (λ (h l : ℕ). h * 256 + l) c.byte-3.ensures c.byte-4.ensures in
+    let sofar : c.two-2.result ≡ two_at m 6 = c.two-2.ensures.0 ∙ ap₂ (λ (h l : ℕ). h * 256 + l) c.byte-5.ensures c.byte-6.ensures in
+    c.then_some.ensures
+    ∙ read_one_by_one m c.is_open.result _ _ _ _ _ _
+    c.byte-mark.ensures c.byte.ensures c.byte-2.ensures c.byte-spare.ensures size sofar c.is_open.ensures

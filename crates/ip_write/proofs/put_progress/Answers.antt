@@ -1,12 +1,15 @@
 -- `ip_write::put_progress` meets its contract. Assumes nothing.
-use native.Mathlib.Omega.{arith}
-use Rattle.wide.proofs.Stores.{put_four}
+use mathlib.Core.Path.{ap₂, ◌∙◌}
+use mathlib.Core.List.{List, ◌++◌}
+use Prim.Native.Nat.{ℕ, ◌-◌}
+use lib.ListN.{length, drop}
+use borrow.Rule.Slice.PartMut.{put_mid}
 use Rattle.ip_write.proofs.Closes.{eight}
 use Rattle.ip_write.proofs.put_progress.Goals as goal
 
 pub returns : goal.returns
 returns c =
-    let a = c.args in
-    eight a.progress.now c.put.new.out c.put-2.new.out a.p.done a.p.sent c.requires
-    (put_four a.progress.now 0 a.p.done c.put.result c.put.new.out (omega arith) (omega arith) c.put.ensures)
-    (put_four c.put.new.out 4 a.p.sent c.put-2.result c.put-2.new.out (omega arith) (omega arith) c.put-2.ensures)
+    let l = c.args.progress.now in
+    ap₂ (λ (x y : List ℕ). put_mid 4 (length (x ++ drop 4 l) - 4) (x ++ drop 4 l) y)
+    (c.copy_from_slice.ensures.after ∙ c.to_be_bytes.ensures) (c.copy_from_slice-2.ensures.after ∙ c.to_be_bytes-2.ensures)
+    ∙ eight l c.args.p.done c.args.p.sent c.requires

@@ -1,18 +1,10 @@
 -- `listed::read_into` meets its contract. Assumes nothing.
-use mathlib.Core.Path.{refl, ◌∙◌}
-use Rattle.listed.proofs.Packing.{ready, read_is}
+use mathlib.Core.Path.{◌∙◌}
+use Rattle.listed.proofs.Packing.{singles_small, read_is}
 use Rattle.listed.proofs.read_into.Goals as goal
 
-pub unpack-requires : goal.unpack-requires
-unpack-requires c = refl
-
-pub pack-requires : goal.pack-requires
-pack-requires c =
-    let u = c.unpack in
-    let list = c.signalling-list in
-    (ready c.args.word.now u.new.d list.result u.ensures list.ensures, refl)
+pub invariant_of-block-clause-single : goal.invariant_of-block-clause-single
+invariant_of-block-clause-single c = singles_small c.args.word.now _ c.unpack.ensures
 
 pub returns : goal.returns
-returns c =
-    let u = c.unpack in
-    c.pack.ensures ∙ read_is c.args.word.now u.new.d u.ensures
+returns c = c.pack.ensures ∙ read_is c.args.word.now _ c.unpack.ensures

@@ -27,9 +27,9 @@ pub returns-then-n-eq-SIGNALLING_BLOCK : goal.returns-then-n-eq-SIGNALLING_BLOCK
 unfolding increment
 returns-then-n-eq-SIGNALLING_BLOCK c = (sym (choose_true _ _ (eq-eqb c.args.n 762 c.if-n-eq-SIGNALLING_BLOCK.true)), omega arith)
 
-pub returns : goal.returns
+pub returns-else-n-eq-SIGNALLING_BLOCK : goal.returns-else-n-eq-SIGNALLING_BLOCK
 unfolding tab by_table column_of table12 rate_of rates
-returns c =
+returns-else-n-eq-SIGNALLING_BLOCK c =
     let p : ℕ = c.args.pattern in
     let e = get_or_tab by_table 0 0 28 p c.requires ∙ ap by_table (zero-add p) in
     (e ∙ sym (other p c.args.n c.if-n-eq-SIGNALLING_BLOCK.false), subst (λ (x : ℕ). x < 256) (sym e) (ltb→lt (by_table p) 256 (at_all (λ p. ltb (by_table p) 256) 28 small p c.requires)))

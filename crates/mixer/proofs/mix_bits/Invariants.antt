@@ -1,15 +1,11 @@
 -- `mixer::mix_bits` meets its contract: after k bytes each has its eight bits, and the next one's place is known. Assumes nothing.
-use Prim.Native.Nat.{ℕ, ◌-◌, ◌*◌, ◌%◌, ◌≤◌, ◌<◌}
+use Prim.Native.Nat.{ℕ, ◌*◌, ◌%◌, ◌<◌}
 use mathlib.Core.Path.{◌≡◌}
-use lib.ListN.{length, get_or}
+use lib.ListN.{get_or}
 use Rattle.bits.specs.Places.{bit_at, number}
 use Rattle.mixer.specs.Mixer.{mixed_from}
 use Rattle.mixer.proofs.mix_bits.Given as goal
 
-abbrev pub invariant-loop-k : goal.invariant-loop-k
-invariant-loop-k l =
-    (l.k ≤ length l.initial.out) × (length l.out ≡ length l.initial.out) × ((j : ℕ) → j < l.k → get_or l.out j 0 ≡ number (λ i. bit_at l.codeword (mixed_from l.inc l.len i)) (8 * j) 8) × (l.at ≡ l.inc * (8 * l.k) % l.len)
-    × (l.at < l.len)
-
-abbrev pub decreases-loop-k : goal.decreases-loop-k
-decreases-loop-k l = length l.initial.out - l.k
+abbrev pub invariant-loop-byte : goal.invariant-loop-byte
+invariant-loop-byte l =
+    ((j : ℕ) → j < l.byte-index → get_or l.out j 0 ≡ number (λ i. bit_at l.codeword (mixed_from l.inc l.len i)) (8 * j) 8) × (l.at ≡ l.inc * (8 * l.byte-index) % l.len) × (l.at < l.len)

@@ -8,12 +8,6 @@ loop-i-init c =
     let a = c.args in
     (omega arith, run_none a.word.now a.from)
 
-pub more-v-requires : goal.more-v-requires
-more-v-requires c = (c.of_bytes-table.ensures, c.loop-i.invariant.1)
-
-pub loop-i-preserved : goal.loop-i-preserved
-loop-i-preserved c = (omega arith, c.more-v.ensures)
-
 pub returns : goal.returns
 returns c =
     let a = c.args in

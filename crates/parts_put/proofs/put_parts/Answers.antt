@@ -3,7 +3,7 @@ use Prim.Native.Nat.{ℕ, ◌^◌}
 use mathlib.Core.Path.{sym, ap, ◌∙◌, subst}
 use mathlib.Core.List.{List, ◌++◌}
 use native.Mathlib.Omega.{arith}
-use lib.ListN.{length, length-take, length-drop}
+use lib.ListN.{length-take, length-drop}
 use Rattle.bits.specs.Lists.{bits, pack, Below}
 use Rattle.infoword.specs.Word.{fields49}
 use Rattle.infoword.proofs.Fields49.{parts_are}
@@ -20,7 +20,6 @@ put-requires c =
     let e = c.parts-v.ensures in
     let a = parts_are w in (
       rw (length-take, length-drop) (omega (arith, c.if-word-ne-PAYLOAD_WORD.false)),
-      ap length e ∙ a.0,
       subst (λ (l : List ℕ). Below (2 ^ 49) l) (sym e) a.1,
     )
 

@@ -1,13 +1,11 @@
--- `placement::held` meets its contract: the sum of t values has at most t times a byte's size, so that nothing wraps. Assumes nothing.
-use Prim.Native.Nat.{◌-◌, ◌*◌, ◌≤◌}
+-- `placement::held` meets its contract: the sum of some values has at most as many times a byte's size, so that nothing wraps. Assumes nothing.
+use Prim.Native.Nat.{◌*◌}
 use mathlib.Core.Path.{◌≡◌}
-use lib.Signed.{mag}
+use lib.IntN.{pos, neg_ℤ}
+use lib.ListN.{take}
+use lib.Signed.{◌≤ℤ◌}
 use Rattle.placement.specs.Place.{held}
-use Rattle.placement.specs.Inside.{run}
 use Rattle.placement.proofs.held.Given as goal
 
-abbrev pub invariant-loop-t : goal.invariant-loop-t
-invariant-loop-t l = (l.t ≤ l.n) × (l.sum ≡ held (run l.values l.at l.t)) × (mag (held (run l.values l.at l.t)) ≤ 128 * l.t)
-
-abbrev pub decreases-loop-t : goal.decreases-loop-t
-decreases-loop-t l = l.n - l.t
+abbrev pub invariant-loop-copy : goal.invariant-loop-copy
+invariant-loop-copy l = (l.sum ≡ held (take l.copy-index l.copies)) × (neg_ℤ (pos (128 * l.copy-index)) ≤ℤ l.sum) × (l.sum ≤ℤ pos (128 * l.copy-index))

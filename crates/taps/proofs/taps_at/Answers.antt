@@ -7,7 +7,7 @@ use Rattle.bits.specs.Places.{fields_at}
 use Rattle.bits.proofs.Places.{field_lt, fields_length}
 use Rattle.description.specs.Rows.{total}
 use Rattle.description.specs.Tests.{taps_of}
-use Rattle.taps.proofs.Tapping.{taps_more, taps_far}
+use Rattle.taps.proofs.Tapping.{taps_more}
 use borrow.Author.Rules.{rules}
 use Rattle.taps.proofs.taps_at.Goals as goal
 
@@ -15,33 +15,17 @@ pub loop-k-init : goal.loop-k-init
 unfolding total
 loop-k-init c = search rules
 
-pub overflow_mul-apart : goal.overflow_mul-apart
-overflow_mul-apart c = let h = taps_far c.args.apart c.loop-k.k 8 c.requires.1 (omega arith) (omega arith) in search (rules, h)
-
-pub overflow_add-at : goal.overflow_add-at
-overflow_add-at c = let h = taps_far c.args.apart c.loop-k.k 8 c.requires.1 (omega arith) (omega arith) in search (rules, h)
-
-pub overflow_add-taps : goal.overflow_add-taps
-overflow_add-taps c = omega (arith, c.field.ensures, field_lt c.args.w.now (c.args.at + c.args.apart * c.loop-k.k) 4 (omega arith))
-
-pub overflow_mul-taps : goal.overflow_mul-taps
-overflow_mul-taps c = omega (arith, c.field.ensures, field_lt c.args.w.now (c.args.at + c.args.apart * c.loop-k.k) 4 (omega arith))
-
-pub overflow_add-taps-in-loop-k : goal.overflow_add-taps-in-loop-k
-overflow_add-taps-in-loop-k c = omega (arith, c.field.ensures, field_lt c.args.w.now (c.args.at + c.args.apart * c.loop-k.k) 4 (omega arith))
-
 pub loop-k-preserved : goal.loop-k-preserved
 loop-k-preserved c =
     let l = c.loop-k in
     let w = c.args.w.now in
     let small = field_lt w (c.args.at + c.args.apart * l.k) 4 (omega arith) in (
-      omega arith,
-      ap (λ (x : ℕ). l.taps + (x + 1) * 2) c.field.ensures ∙ taps_more w c.args.at c.args.apart c.args.n l.k l.taps (search rules) l.invariant.1,
-      omega (arith, c.field.ensures),
+      ap (λ (x : ℕ). l.taps + (x + 1) * 2) c.field-half.ensures ∙ taps_more w c.args.at c.args.apart c.args.n l.k l.taps (search rules) l.invariant.0,
+      omega (arith, c.field-half.ensures),
     )
 
 pub returns : goal.returns
 returns c =
     let l = c.loop-k in
     let e : l.k ≡ c.args.n = omega arith in
-    l.invariant.1 ∙ ap (total taps_of) (take_all l.k (fields_at c.args.w.now c.args.at c.args.apart 4 c.args.n) (omega (arith, fields_length c.args.w.now c.args.at c.args.apart 4 c.args.n)))
+    l.invariant.0 ∙ ap (total taps_of) (take_all l.k (fields_at c.args.w.now c.args.at c.args.apart 4 c.args.n) (omega (arith, fields_length c.args.w.now c.args.at c.args.apart 4 c.args.n)))

@@ -1,34 +1,26 @@
 -- `text::list` meets its contract. Assumes nothing.
-use mathlib.Core.Path.{sym, ap, ◌∙◌}
-use native.Mathlib.Omega.{arith}
-use borrow.Author.Rules.{rules}
-use Rattle.ground.proofs.Answers.{refused_by}
-use Rattle.bits.specs.Lists.{Below}
-use Rattle.bits.proofs.Below.{below_of}
+use Rattle.std.proofs.Common.{ℕ, sym, ap, ◌∙◌, subst, rules}
+use Rattle.ground.specs.Outcome.{Is}
 use Rattle.sheets.specs.Answers.{told}
+use Rattle.sheets.proofs.Bytes.{bytes_below}
+use Rattle.words.specs.Words.{put}
 use Rattle.text.specs.Listing.{refused}
 use Rattle.text.proofs.Listed.{no_room, accepted_put, refused_put}
 use Rattle.text.proofs.list.Goals as goal
 
-pub returns-then-out-lt1024 : goal.returns-then-out-lt1024
-returns-then-out-lt1024 c =
-    let bytes : Below 256 c.args.sheet.now = below_of 256 c.args.sheet.now (λ i. omega (arith, c.type_inv.sheet i)) in
-    let a = c.args in (no_room a.sheet.now a.out.now (search rules), bytes)
+pub returns-then-out-lt-ROOM : goal.returns-then-out-lt-ROOM
+returns-then-out-lt-ROOM c = (no_room c.args.sheet.now c.args.out.now (search rules), bytes_below _ c.type_inv.sheet)
 
 pub returns-in_default : goal.returns-in_default
 unfolding refused
 returns-in_default c =
-    let e = c.in_default.is in
     let a = c.args in
-    let m = c.refusal-number.ensures ∙ ap (λ x. (told x).number) e in (
-      refused_put a.sheet.now a.out.now (search rules) c.refusal-number.result (ap refused_by m ∙ sym (ap told e) ∙ c.check-answer.ensures.0) c.line-n.ensures,
-      c.check-answer.ensures.1,
-    )
+    let e = c.unwrap_err-refusal.ensures in
+    let text = subst (λ (n : ℕ). Is (put a.out.now 0 (refused n)) c.line-n.result c.line-n.new.out) c.number.ensures c.line-n.ensures in
+    (refused_put a.sheet.now a.out.now (search rules) _ (sym (ap told e) ∙ c.check-answer.ensures.0) text, c.check-answer.ensures.1)
 
 pub returns : goal.returns
 returns c =
-    let f = c.in-Accepted in
-    let a = c.args in (
-      accepted_put a.sheet.now a.out.now (search rules) f.p f.s f.d (sym (ap told f.is) ∙ c.check-answer.ensures.0) c.lines.ensures,
-      c.check-answer.ensures.1,
-    )
+    let a = c.args in
+    let n = c.in-Ok.counts in
+    (accepted_put a.sheet.now a.out.now (search rules) n.p n.s n.d c.in-Ok.ensures.0 c.lines.ensures, c.in-Ok.ensures.1)

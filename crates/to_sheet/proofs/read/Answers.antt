@@ -1,39 +1,24 @@
 -- `to_sheet::read` meets its contract. Assumes nothing.
-use mathlib.Core.Path.{sym, ap, ◌∙◌, subst}
-use Rattle.ground.specs.Outcome.{Is}
-use Rattle.description.specs.Word.{reading}
-use Rattle.sheets.specs.Answers.{told}
-use Rattle.to_sheet.proofs.Readings.{room_length, reading_refused, reading_done, counts}
-use native.Mathlib.Omega.{arith}
-use Rattle.bits.specs.Lists.{Below}
-use Rattle.bits.proofs.Below.{below_of}
-use borrow.Author.Rules.{rules}
+use Rattle.std.proofs.Common.{rules}
+use Rattle.std.proofs.lemmas.Result.{err_from_is_err_and}
+use Rattle.sheets.proofs.Bytes.{bytes_below}
+use Rattle.to_sheet.proofs.Readings.{room_length, reading_refused, reading_done, fillable}
 use Rattle.to_sheet.proofs.read.Goals as goal
 
 pub returns-then-sheet-lt-ROOM : goal.returns-then-sheet-lt-ROOM
-returns-then-sheet-lt-ROOM c =
-    let bytes : Below 256 c.args.word.now = below_of 256 c.args.word.now (λ i. omega (arith, c.type_inv.word i)) in
-    let a = c.args in
-    (room_length a.word.now a.sheet.now (search rules), bytes)
+returns-then-sheet-lt-ROOM c = (room_length c.args.word.now c.args.sheet.now (search rules), bytes_below _ c.type_inv.word)
 
-pub returns-in_default : goal.returns-in_default
-returns-in_default c =
-    let a = c.args in
-    let bytes : Below 256 a.word.now = below_of 256 a.word.now (λ i. omega (arith, c.type_inv.word i)) in
-    let e = c.in_default.is in (
-      subst (λ t. Is (reading a.word.now a.sheet.now) (told t) a.sheet.now) (sym e)
-          (reading_refused a.word.now a.sheet.now (search rules) c.in_default.field-0 (sym (ap told e) ∙ c.survey-found.ensures)),
-      bytes,
-    )
+pub returns-in_err-counts : goal.returns-in_err-counts
+returns-in_err-counts c =
+    let p = err_from_is_err_and c.from_residual.result c.from_residual.ensures.1 in
+    rw (p.1, p.2) (reading_refused c.args.word.now c.args.sheet.now (search rules) _ c.in_err-counts.ensures, bytes_below _ c.type_inv.word)
 
 pub fill-requires : goal.fill-requires
 fill-requires c =
-    let f = c.in-Accepted in
-    counts c.args.word.now c.args.sheet.now (search rules) f.p f.s f.d (sym (ap told f.is) ∙ c.survey-found.ensures)
+    let n = c.in_ok-counts.counts in
+    fillable c.args.word.now c.args.sheet.now (search rules) n.p n.s n.d c.in_ok-counts.ensures
 
 pub returns : goal.returns
 returns c =
-    let a = c.args in
-    let bytes : Below 256 a.word.now = below_of 256 a.word.now (λ i. omega (arith, c.type_inv.word i)) in
-    let f = c.in-Accepted in
-    (reading_done a.word.now a.sheet.now (search rules) f.p f.s f.d (sym (ap told f.is) ∙ c.survey-found.ensures) _ c.fill.ensures, bytes)
+    let n = c.in_ok-counts.counts in
+    (reading_done c.args.word.now c.args.sheet.now (search rules) n.p n.s n.d c.in_ok-counts.ensures _ c.fill.ensures, bytes_below _ c.type_inv.word)

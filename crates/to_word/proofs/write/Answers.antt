@@ -1,34 +1,24 @@
 -- `to_word::write` meets its contract. Assumes nothing.
-use mathlib.Core.Path.{sym, ap, ◌∙◌}
-use Rattle.sheets.specs.Answers.{told}
+use Rattle.std.proofs.lemmas.Result.{err_from_is_err_and}
+use Rattle.sheets.proofs.Bytes.{bytes_below}
 use Rattle.to_word.proofs.Written.{denied_length, denied, stated, written}
-use native.Mathlib.Omega.{arith}
-use Rattle.bits.specs.Lists.{Below}
-use Rattle.bits.proofs.Below.{below_of}
 use Rattle.to_word.proofs.write.Goals as goal
 
-pub returns-then-word-ne-SIGNALLING_WORD : goal.returns-then-word-ne-SIGNALLING_WORD
-returns-then-word-ne-SIGNALLING_WORD c =
-    let bytes : Below 256 c.args.sheet.now = below_of 256 c.args.sheet.now (λ i. omega (arith, c.type_inv.sheet i)) in
-    let a = c.args in (denied_length a.sheet.now a.word.now c.if-word-ne-SIGNALLING_WORD.true, bytes)
+pub returns-in_default : goal.returns-in_default
+returns-in_default c = (denied_length c.args.sheet.now c.args.word.now c.in_default.ensures.cases, bytes_below _ c.type_inv.sheet)
+
+pub returns-in_err-counts : goal.returns-in_err-counts
+returns-in_err-counts c =
+    let a = c.args in
+    let p = err_from_is_err_and c.from_residual.result c.from_residual.ensures.1 in
+    let same = c.in-Some.ensures.cases in
+    rw (p.1, p.2) (denied a.sheet.now a.word.now same.long _ same.same c.in_err-counts.ensures.0, c.in_err-counts.ensures.1)
 
 pub lay-requires : goal.lay-requires
-lay-requires c =
-    let a = c.args in
-    let f = c.in-Accepted in
-    stated a.sheet.now a.word.now c.if-word-ne-SIGNALLING_WORD.false f.p f.s f.d (sym (ap told f.is) ∙ c.check.ensures.0)
+lay-requires c = let n = c.in_ok-counts.counts in stated c.args.sheet.now n.p n.s n.d c.in_ok-counts.ensures.0
 
-pub returns-in-Accepted : goal.returns-in-Accepted
-returns-in-Accepted c =
+pub returns : goal.returns
+returns c =
     let a = c.args in
-    let f = c.in-Accepted in (
-      written a.sheet.now a.word.now c.if-word-ne-SIGNALLING_WORD.false f.p f.s f.d
-          (sym (ap told f.is) ∙ c.check.ensures.0) _ c.lay.ensures,
-      c.check.ensures.1,
-    )
-
-pub returns-in-Refused : goal.returns-in-Refused
-returns-in-Refused c =
-    let a = c.args in
-    let f = c.in-Refused in
-    (denied a.sheet.now a.word.now c.if-word-ne-SIGNALLING_WORD.false f.n (sym (ap told f.is) ∙ c.check.ensures.0), c.check.ensures.1)
+    let n = c.in_ok-counts.counts in
+    (written a.sheet.now a.word.now c.in-Some.ensures.cases.long n.p n.s n.d c.in_ok-counts.ensures.0 _ c.lay.ensures, c.in_ok-counts.ensures.1)

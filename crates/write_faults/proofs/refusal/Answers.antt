@@ -1,52 +1,54 @@
 -- `write_faults::refusal` meets its contract. Assumes nothing.
-use Prim.Native.Nat.{◌≤◌}
+use Prim.Native.Nat.{◌<◌}
+use mathlib.Core.Logic.{inl, inr}
 use mathlib.Core.Path.{◌≡◌, sym, ◌∙◌}
 use native.Mathlib.Omega.{arith}
-use Rattle.write_faults.specs.Faults.{lent_bytes}
-use Rattle.write_faults.proofs.Faults.{write_15, write_1, write_1_word, write_0, write_packets, packets_clear}
+use Rattle.std.proofs.lemmas.Result.{err_from_is_err_and}
+use Rattle.ground.proofs.Refusals.{number_not_0}
+use Rattle.infoword.specs.declared.StreamType.TheVariants.{Empty, Transparent, TransportStream, IpStream, Other}
+use Rattle.infoword.proofs.Types.{number_of}
+use Rattle.write_faults.proofs.Faults.{write_15, write_1, write_1_word, write_0, write_packets, Lent, lent_empty, lent_transparent, lent_transport}
 use Rattle.write_faults.proofs.refusal.Goals as goal
+use Rattle.write_faults.proofs.refusal.Goals.{in-Empty, in-Transparent, in-TransportStream+in_ok-refusal-in-TransportStream}
 
-pub returns-then-kind-gt-TRANSPORT_STREAM : goal.returns-then-kind-gt-TRANSPORT_STREAM
-returns-then-kind-gt-TRANSPORT_STREAM c =
+pub returns-in_err-refusal-in-TransportStream : goal.returns-in_err-refusal-in-TransportStream
+returns-in_err-refusal-in-TransportStream c =
     let a = c.args in
-    write_15 a.kind a.count a.payload a.null a.word (omega arith)
+    let two : a.kind ≡ 2 = omega (arith, number_of a.kind c.from.result TransportStream c.from.ensures c.in-TransportStream.is) in
+    let p = err_from_is_err_and c.from_residual.result c.from_residual.ensures.1 in
+    let e = c.in_err-refusal-in-TransportStream.ensures in
+    rw (p.1, p.2) (write_packets a.kind a.count a.payload a.null a.word two _ e (omega (arith, number_not_0 c.in_err-refusal-in-TransportStream.field-0.0)))
 
-pub returns-then-n-gt0 : goal.returns-then-n-gt0
-returns-then-n-gt0 c =
+pub returns-in-IpStream : goal.returns-in-IpStream
+returns-in-IpStream c =
     let a = c.args in
-    write_packets a.kind a.count a.payload a.null a.word c.if-kind-eq-TRANSPORT_STREAM.true c.refusal-n.result c.refusal-n.ensures (omega (arith, c.if-n-gt0.true))
-
-pub returns-then-payload-bytes : goal.returns-then-payload-bytes
-returns-then-payload-bytes c =
-    let whole : let a = c.args in a.kind ≡ 2 → (a.count ≤ 8) × (a.null ≡ 188) = λ e. let a = c.args in
-    elim c.if-kind-eq-TRANSPORT_STREAM.branch [
-      | goal.then-kind-eq-TRANSPORT_STREAM+else-n-gt0 x ↦
-          (let z : 0 ≡ x.refusal-n.result = omega arith in packets_clear a.count a.null (z ∙ x.refusal-n.ensures))
-      | goal.else-kind-eq-TRANSPORT_STREAM y ↦ absurd (y.if-kind-eq-TRANSPORT_STREAM.false e)
+    let above : 2 < a.kind = elim c.in-IpStream.is [
+      | inl e ↦ omega (arith, number_of a.kind c.from.result IpStream c.from.ensures e)
+      | inr e ↦ omega (arith, number_of a.kind c.from.result Other c.from.ensures e)
     ] in
-    let a = c.args in
-    write_1 a.kind a.count a.payload a.null a.word (omega arith) (λ e. (whole e).0) (λ e. (whole e).1) (λ e. c.if-payload-bytes.true (e ∙ sym c.bytes.ensures))
+    write_15 a.kind a.count a.payload a.null a.word above
 
-pub returns-then-word-ne-PAYLOAD_WORD : goal.returns-then-word-ne-PAYLOAD_WORD
-returns-then-word-ne-PAYLOAD_WORD c =
-    let whole : let a = c.args in a.kind ≡ 2 → (a.count ≤ 8) × (a.null ≡ 188) = λ e. let a = c.args in
-    elim c.if-kind-eq-TRANSPORT_STREAM.branch [
-      | goal.then-kind-eq-TRANSPORT_STREAM+else-n-gt0 x ↦
-          (let z : 0 ≡ x.refusal-n.result = omega arith in packets_clear a.count a.null (z ∙ x.refusal-n.ensures))
-      | goal.else-kind-eq-TRANSPORT_STREAM y ↦ absurd (y.if-kind-eq-TRANSPORT_STREAM.false e)
-    ] in
-    let paid : let a = c.args in a.payload ≡ lent_bytes a.kind a.count = c.if-payload-bytes.false ∙ c.bytes.ensures in
+pub returns-then-payload-lent : goal.returns-then-payload-lent
+returns-then-payload-lent c =
     let a = c.args in
-    write_1_word a.kind a.count a.payload a.null a.word (omega arith) (λ e. (whole e).0) (λ e. (whole e).1) paid (λ e. omega (arith, c.if-word-ne-PAYLOAD_WORD.true))
+    let l : Lent a.kind a.count a.null c.match-from.lent = elim c.match-from.branch [
+      | in-Empty w ↦ lent_empty a.kind a.count a.null _ (omega (arith, number_of a.kind c.from.result Empty c.from.ensures w.in-Empty.is)) w.lent-is
+      | in-Transparent w ↦ lent_transparent a.kind a.count a.null _ (omega (arith, number_of a.kind c.from.result Transparent c.from.ensures w.in-Transparent.is)) w.lent-is
+      | in-TransportStream+in_ok-refusal-in-TransportStream w ↦
+          lent_transport a.kind a.count a.null _ (omega (arith, number_of a.kind c.from.result TransportStream c.from.ensures w.in-TransportStream.is)) w.in_ok-refusal-in-TransportStream.ensures w.lent-is
+    ] in
+    elim c.then-payload-lent.either [
+      | inl n ↦ write_1 a.kind a.count a.payload a.null a.word l.kind_is l.count_is l.null_is (λ e. n (e ∙ sym l.bytes_is))
+      | inr (e, n) ↦ write_1_word a.kind a.count a.payload a.null a.word l.kind_is l.count_is l.null_is (e ∙ l.bytes_is) n
+    ]
 
 pub returns : goal.returns
 returns c =
-    let whole : let a = c.args in a.kind ≡ 2 → (a.count ≤ 8) × (a.null ≡ 188) = λ e. let a = c.args in
-    elim c.if-kind-eq-TRANSPORT_STREAM.branch [
-      | goal.then-kind-eq-TRANSPORT_STREAM+else-n-gt0 x ↦
-          (let z : 0 ≡ x.refusal-n.result = omega arith in packets_clear a.count a.null (z ∙ x.refusal-n.ensures))
-      | goal.else-kind-eq-TRANSPORT_STREAM y ↦ absurd (y.if-kind-eq-TRANSPORT_STREAM.false e)
-    ] in
-    let paid : let a = c.args in a.payload ≡ lent_bytes a.kind a.count = c.if-payload-bytes.false ∙ c.bytes.ensures in
     let a = c.args in
-    write_0 a.kind a.count a.payload a.null a.word (omega arith) (λ e. (whole e).0) (λ e. (whole e).1) paid (omega (arith, c.if-word-ne-PAYLOAD_WORD.false))
+    let l : Lent a.kind a.count a.null c.match-from.lent = elim c.match-from.branch [
+      | in-Empty w ↦ lent_empty a.kind a.count a.null _ (omega (arith, number_of a.kind c.from.result Empty c.from.ensures w.in-Empty.is)) w.lent-is
+      | in-Transparent w ↦ lent_transparent a.kind a.count a.null _ (omega (arith, number_of a.kind c.from.result Transparent c.from.ensures w.in-Transparent.is)) w.lent-is
+      | in-TransportStream+in_ok-refusal-in-TransportStream w ↦
+          lent_transport a.kind a.count a.null _ (omega (arith, number_of a.kind c.from.result TransportStream c.from.ensures w.in-TransportStream.is)) w.in_ok-refusal-in-TransportStream.ensures w.lent-is
+    ] in
+    write_0 a.kind a.count a.payload a.null a.word l.kind_is l.count_is l.null_is (c.if-payload-lent.false ∙ l.bytes_is) c.if-word-ne-PAYLOAD_WORD.false

@@ -1,10 +1,6 @@
 -- `encapsulation::transport::fill_up` meets its contract: after k packets those from count to k are null packets. Assumes nothing.
-use Prim.Native.Nat.{◌-◌}
 use Rattle.encapsulation.proofs.Stores.{Filled}
 use Rattle.encapsulation.proofs.transport.fill_up.Given as goal
 
 abbrev pub invariant-loop-k : goal.invariant-loop-k
 invariant-loop-k l = Filled l.initial.word l.null l.count l.k l.word
-
-abbrev pub decreases-loop-k : goal.decreases-loop-k
-decreases-loop-k l = 8 - l.k

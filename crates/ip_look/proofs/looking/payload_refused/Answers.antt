@@ -1,26 +1,31 @@
 -- `ip_look::looking::payload_refused` meets its contract. Assumes nothing.
-use mathlib.Core.Path.{sym, ◌∙◌}
+use Prim.Native.Nat.{ℕ}
+use mathlib.Core.Path.{sym, ap, ◌∙◌}
+use mathlib.Core.Bool.{not}
+use mathlib.Core.List.{List}
 use native.Mathlib.Omega.{arith}
-use borrow.Author.Tests.{not-true, not-false}
+use borrow.Author.Tests.{ne_eqb}
+use Rattle.ip.specs.Read.{walk}
 use Rattle.ip_open.proofs.Means.{means_sound}
 use Rattle.ip_look.proofs.Looks.{look_none, look_other, look_begun}
 use Rattle.ip_look.proofs.looking.payload_refused.Goals as goal
 
-pub returns-then-not-o : goal.returns-then-not-o
-returns-then-not-o c =
-    look_none c.args.memory.now c.args.payload.now c.args.address c.open_in-o.result c.open_in-o.ensures c.heads_refused.result
-    (not-true _ c.if-not-o.true) c.heads_refused.ensures
+pub returns-in_default : goal.returns-in_default
+returns-in_default c =
+    look_none c.args.memory.now c.args.payload.now c.args.address c.in_default.ensures _
+    (c.heads_refused.ensures ∙ ap (λ (l : List ℕ). (walk 0 l).refused) c.from.ensures)
 
 pub overflow_sub-rest : goal.overflow_sub-rest
-overflow_sub-rest c =
-    omega (arith, (means_sound c.args.memory.now c.open_in-o.result c.open_in-o.ensures c.requires.1 (not-false _ c.if-not-o.false)).1)
+overflow_sub-rest c = omega (arith, (means_sound c.args.memory.now c.in-Some.o c.told-memory c.in-Some.ensures).1)
 
 pub returns-then-address-address_after : goal.returns-then-address-address_after
 returns-then-address-address_after c =
-    look_other c.args.memory.now c.args.payload.now c.args.address c.open_in-o.result c.open_in-o.ensures c.requires.1 (not-false _ c.if-not-o.false)
+    ap not (ne_eqb _ _ c.if-address-address_after.true)
+    ∙ look_other c.args.memory.now c.args.payload.now c.args.address c.in-Some.o c.in-Some.ensures c.told-memory
     (λ z. c.if-address-address_after.true (z ∙ sym c.address_after.ensures))
 
-pub returns : goal.returns
-returns c =
-    look_begun c.args.memory.now c.args.payload.now c.args.address c.open_in-o.result c.open_in-o.ensures c.requires.1 (not-false _ c.if-not-o.false) c.heads_refused-2.result
-    (c.if-address-address_after.false ∙ c.address_after.ensures) c.heads_refused-2.ensures
+pub returns-else-address-address_after : goal.returns-else-address-address_after
+returns-else-address-address_after c =
+    look_begun c.args.memory.now c.args.payload.now c.args.address c.in-Some.o c.in-Some.ensures c.told-memory _
+    (c.if-address-address_after.false ∙ c.address_after.ensures)
+    (c.heads_refused-else-address-address_after.ensures ∙ ap (λ (l : List ℕ). (walk 0 l).refused) c.from-else-address-address_after.ensures)

@@ -7,7 +7,7 @@ use Rattle.ip_read.proofs.taking.follow.Goals as goal
 pub keep-requires : goal.keep-requires
 keep-requires c =
     let e = c.hand_out-end.ensures.ended in
-    (c.requires.0, c.requires.1, ap (λ (g : Got). g.refused) e, ap (λ (g : Got). g.packets) e)
+    (ap (λ (g : Got). g.refused) e, ap (λ (g : Got). g.packets) e)
 
 pub returns : goal.returns
 returns c =

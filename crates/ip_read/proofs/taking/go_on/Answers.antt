@@ -6,5 +6,5 @@ use Rattle.ip_read.proofs.taking.go_on.Goals as goal
 pub returns : goal.returns
 returns c =
     let o = c.args.o in
-    further_laid c.args.memory.now c.copy.new.out c.settle.new.memory c.args.payload.now o.kind o.error o.length o.sofar c.requires.1
-    (omega (arith, c.requires.0, c.requires.2, c.requires.3)) c.copy.ensures c.settle.ensures
+    further_laid c.args.memory.now c.copy.new.out c.settle.new.memory c.args.payload.now o.kind o.error o.length o.sofar c.told-memory c.told-payload
+    (omega (arith, c.requires.0, c.requires.1)) c.copy.ensures c.settle.ensures

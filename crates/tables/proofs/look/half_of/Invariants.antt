@@ -1,10 +1,10 @@
--- `tables::look::half_of` meets its contract. Assumes nothing.
-use Prim.Native.Nat.{◌-◌, ◌*◌, ◌≤◌}
-use Rattle.tables.specs.Tables.{Halved}
+-- `tables::look::half_of` meets its contract: j of the three tables are there. Assumes nothing.
+use Prim.Native.Nat.{◌*◌}
+use mathlib.Core.Path.{◌≡◌}
+use lib.ListN.{take}
+use Rattle.ground.specs.Table.{tab}
+use Rattle.tables.specs.Plan.{look_at}
 use Rattle.tables.proofs.look.half_of.Given as goal
 
 abbrev pub invariant-loop-j : goal.invariant-loop-j
-invariant-loop-j l = (l.j ≤ 3) × Halved l.rows l.h (192 * l.h) l.j l.initial.t l.t
-
-abbrev pub decreases-loop-j : goal.decreases-loop-j
-decreases-loop-j l = 3 - l.j
+invariant-loop-j l = take (64 * l.j) l.t ≡ tab (look_at l.rows) (192 * l.h) (64 * l.j)

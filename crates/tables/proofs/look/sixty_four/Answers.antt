@@ -1,63 +1,47 @@
 -- `tables::look::sixty_four` meets its contract. Assumes nothing.
-use Prim.Native.Nat.{ℕ, ◌+◌, ◌*◌, ◌^◌, ◌≤◌}
-use mathlib.Core.Path.{◌≡◌, refl, sym, ap, ap₂, ◌∙◌, subst}
-use mathlib.Core.List.{List}
-use native.Mathlib.Nat.{pow-suc}
+use Prim.Native.Nat.{ℕ, ◌+◌, ◌*◌, ◌%◌, ◌^◌, ◌≤◌, ◌<◌}
+use mathlib.Core.Path.{◌≡◌, sym, ap, ap₂, ◌∙◌}
+use mathlib.Core.List.{List, ◌++◌, map}
+use native.Mathlib.Nat.{one-mul, pow-suc}
 use native.Mathlib.Numerals.{add-one}
 use native.Mathlib.Omega.{arith}
-use lib.ListN.{get_or, set, length-set}
+use lib.Bits.{bit_xor}
 use lib.Pow.{pow_mono}
+use lib.ListN.{length, get_or, take, drop, length-set, length-append}
+use lib.Seq.{take_at, take-suc-set, length-take-le}
+use Rattle.std.proofs.lemmas.List.{length-map}
 use Rattle.patterns.specs.Sent.{total}
-use Rattle.tables.specs.Plan.{coded}
-use Rattle.tables.specs.Tables.{Light, Doubled, Looked}
-use Rattle.tables.proofs.Weighing.{light, weighed}
-use Rattle.tables.proofs.Looking.{looked_none, looked_more, looked_all, impulse_coded}
+use Rattle.tables.specs.Tables.{weighed, sums}
 use Rattle.tables.proofs.look.sixty_four.Goals as goal
 
+-- a power of two up to 32, as the code shifts to it
+power : (b : ℕ) → b < 6 → (1 * 2 ^ b % 18446744073709551616 ≡ 2 ^ b) × (2 ^ b ≤ 32)
+power b h =
+    let l : 2 ^ b ≤ 32 = pow_mono {i = b} {j = 5} (omega arith) in
+    (omega (arith, one-mul (2 ^ b), l), l)
+
+-- twice as many entries
+more : (t t' : List ℕ) (f : ℕ → ℕ) (n : ℕ) → n + n ≤ length t → t' ≡ take n t ++ map f (take n t) ++ drop (2 * n) t → take (n + n) t' ≡ take n t ++ map f (take n t)
+more t t' f n room e =
+    let front : length (take n t) ≡ n = length-take-le n t (omega arith) in
+    ap (take (n + n)) e
+    ∙ take_at (take n t ++ map f (take n t)) (drop (2 * n) t) (n + n) (length-append (take n t) (map f (take n t)) ∙ ap₂ ◌+◌ front (length-map (take n t) f ∙ front))
+
 pub loop-b-init : goal.loop-b-init
-loop-b-init c =
-    (omega arith, refl, looked_none c.args.rows.now c.args.h c.args.i c.args.at c.args.t.now (omega (arith, c.requires.3)))
-
-pub weigh-requires : goal.weigh-requires
-weigh-requires c =
-    subst Light (sym c.requires.0) (light c.args.rows.now c.args.h)
-
-pub double-requires : goal.double-requires
-double-requires c =
-    let most : c.loop-b.n ≤ 32 = omega (arith, c.loop-b.invariant.1, pow_mono {i = c.loop-b.b} {j = 5} (omega (arith, c.loop-b-test.true))) in
-    let l = c.loop-b in
-    (most, omega (arith, most, l.invariant.2.len, length-set c.args.t.now c.args.at 0, c.requires.3))
-
-pub overflow_mul-n : goal.overflow_mul-n
-overflow_mul-n c =
-    let most : c.loop-b.n ≤ 32 = omega (arith, c.loop-b.invariant.1, pow_mono {i = c.loop-b.b} {j = 5} (omega (arith, c.loop-b-test.true))) in
-    omega (arith, most)
+unfolding sums
+loop-b-init c = take-suc-set c.args.t.now 0 0 (omega arith)
 
 pub loop-b-preserved : goal.loop-b-preserved
+unfolding sums
 loop-b-preserved c =
+    let a = c.args in
     let l = c.loop-b in
-    let a = c.args in
-    let t0 : List ℕ = set a.t.now a.at 0 in
-    let eg : c.weigh.result ≡ coded a.rows.now a.h (2 ^ (a.i + l.b)) =
-    c.weigh.ensures ∙ ap₂ (λ (w : List ℕ) (m : List ℕ). total (weighed w (get_or m (a.i + l.b) 0)) 36) c.requires.0 c.requires.1
-    ∙ impulse_coded a.rows.now a.h (a.i + l.b) (omega (arith, c.requires.2, c.loop-b-test.true)) in
-    let L : Looked a.rows.now a.h a.i a.at (2 ^ l.b) t0 l.t = subst (λ (n : ℕ). Looked a.rows.now a.h a.i a.at n t0 l.t) l.invariant.1 l.invariant.2 in
-    let D = subst (λ (n : ℕ). Doubled a.at n c.weigh.result l.t c.double.new.t) l.invariant.1 c.double.ensures in
-    let M = looked_more a.rows.now a.h a.i a.at l.b c.weigh.result t0 l.t c.double.new.t L eg D in (
-      omega (arith, c.loop-b-test.true),
-      ap (λ (x : ℕ). x * 2) l.invariant.1 ∙ sym (ap (λ (x : ℕ). 2 ^ x) (add-one l.b) ∙ pow-suc 2 l.b),
-      subst (λ (n : ℕ). Looked a.rows.now a.h a.i a.at (n * 2) t0 c.double.new.t) (sym l.invariant.1) M,
-    )
-
-pub shape_of-t : goal.shape_of-t
-shape_of-t c =
-    let a = c.args in
-    c.loop-b.invariant.2.len ∙ length-set a.t.now a.at 0
-
-pub returns : goal.returns
-returns c =
-    let l = c.loop-b in
-    let a = c.args in
-    let e : l.n ≡ 64 = l.invariant.1 ∙ ap (λ (x : ℕ). 2 ^ x) {x = l.b} {y = 6} (omega (arith, c.loop-b-test.false, l.invariant.0)) in
-    looked_all a.rows.now a.h a.i a.at 64 a.t.now l.t
-    (subst (λ (x : ℕ). Looked a.rows.now a.h a.i a.at x (set a.t.now a.at 0) l.t) e l.invariant.2)
+    let g : ℕ → ℕ = λ b. total (weighed a.w.now (get_or a.alone.now b 0)) 36 in
+    let n : ℕ = 2 ^ l.b in
+    let p = power l.b c.loop-b-test.true in
+    let f : ℕ → ℕ = λ x. bit_xor x c.weigh.result in
+    let twice : 2 ^ (l.b + 1) ≡ n + n = ap (λ (k : ℕ). 2 ^ k) (add-one l.b) ∙ omega (arith, pow-suc 2 l.b) in
+    let T : take (n + n) c.double.new.t ≡ take n l.t ++ map f (take n l.t) =
+    more l.t c.double.new.t f n (omega (arith, p, length-set a.t.now 0 0)) (c.double.ensures ∙ ap (λ (m : ℕ). take m l.t ++ map f (take m l.t) ++ drop (2 * m) l.t) p.0) in
+    ap (λ (k : ℕ). take k c.double.new.t) twice ∙ T ∙ ap₂ (λ (x : List ℕ) (y : ℕ). x ++ map (λ z. bit_xor z y) x) l.invariant c.weigh.ensures
+    ∙ ap (sums g) (sym (add-one l.b))

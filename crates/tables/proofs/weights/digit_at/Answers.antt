@@ -6,7 +6,6 @@ use Rattle.constituent.specs.Segment.{digit_at}
 use Rattle.tables.specs.Plan.{half_at}
 use Rattle.tables.proofs.Weighing.{half_data, half_then}
 use borrow.Author.Rules.{rules}
-use borrow.Author.Rules.{rules}
 use Rattle.tables.proofs.weights.digit_at.Goals as goal
 
 pub returns-then-i-lt30 : goal.returns-then-i-lt30

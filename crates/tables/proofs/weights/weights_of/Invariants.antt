@@ -4,6 +4,3 @@ use Rattle.tables.proofs.weights.weights_of.Given as goal
 
 abbrev pub invariant-loop-i : goal.invariant-loop-i
 invariant-loop-i l = Weighing l.rows l.h l.weights l.bits l.i
-
-abbrev pub decreases-loop-i : goal.decreases-loop-i
-decreases-loop-i l = l.i

@@ -7,6 +7,6 @@ use Rattle.to_word.proofs.lay.seal.Goals as goal
 
 pub returns : goal.returns
 returns c =
-    seals c.requires c.crc12-crc.ensures c.field-acc.ensures
+    seals c.told-word c.crc12-crc.ensures c.field-acc.ensures
     (wide_put (c.crc12-crc.result * 64) 18 c.args.word.now (record { acc = c.field-acc.result; used = 14; at = 92 }) c.put.result c.put.new.out (omega arith) (omega arith)
-    (omega (arith, c.crc12-crc.ensures, crc_small c.args.word.now)) (omega (arith, c.requires)) c.put.ensures)
+    (omega (arith, c.crc12-crc.ensures, crc_small c.args.word.now)) (omega arith) c.put.ensures)

@@ -1,5 +1,0 @@
--- `opl::opl_ip_lost` meets its contract: it is that of the function called. Assumes nothing.
-use Rattle.opl.proofs.opl_ip_lost.Goals as goal
-
-pub returns : goal.returns
-returns c = c.lost.ensures

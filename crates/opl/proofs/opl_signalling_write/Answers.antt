@@ -1,5 +1,0 @@
--- `opl::opl_signalling_write` meets its contract: it is that of the function called. Assumes nothing.
-use Rattle.opl.proofs.opl_signalling_write.Goals as goal
-
-pub returns : goal.returns
-returns c = c.write.ensures
