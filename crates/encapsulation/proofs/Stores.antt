@@ -7,24 +7,28 @@ use native.Mathlib.Omega.{arith}
 use borrow.Rule.Slice.PartMut.{put_mid, Post-is}
 use lib.ListN.{length, take, drop, replicate, take-append-drop, length-append, length-drop}
 use lib.Seq.{take_at, drop_at, paste, length-take-le}
+use native.Mathlib.Nat.{zero-add}
 use Rattle.ground.proofs.Copy.{paste_behind}
+use Rattle.byte_runs.specs.Runs.{copied}
+use Rattle.byte_runs.proofs.Runs.{copied_is, copied_all}
 use Rattle.infoword.specs.Word.{filled}
 use Rattle.encapsulation.specs.Writing.{repeated}
 use Rattle.encapsulation.specs.Steps.{filled_up}
 
 -- the payload, and zeros behind it, put over the first bytes of a word
-pub filled_by : (p x zeros w : List ℕ) → length p ≤ 1532 → length w ≡ 1536 → x ≡ p
-    → zeros ≡ replicate (length (take (1532 - length p) (drop (length p) (x ++ drop (length p) w)))) 0
-    → put_mid (length p) (1532 - length p) (x ++ drop (length p) w) zeros ≡ filled 1532 p ++ drop 1532 w
+pub filled_by : (p m zeros w : List ℕ) → length p ≤ 1532 → length w ≡ 1536 → m ≡ copied p w 0
+    → zeros ≡ replicate (length (take (1532 - length p) (drop (length p) m))) 0
+    → put_mid (length p) (1532 - length p) m zeros ≡ filled 1532 p ++ drop 1532 w
 unfolding filled
-filled_by p x zeros w h l e z =
+filled_by p m zeros w h l e z =
     let n : ℕ = length p in
+    let front : m ≡ p ++ drop n w = e ∙ copied_is p w 0 (omega arith) ∙ ap (λ (k : ℕ). p ++ drop k w) (zero-add n) in
     let behind : drop n (p ++ drop n w) ≡ drop n w = drop_at p (drop n w) n refl in
     let room : length (take (1532 - n) (drop n w)) ≡ 1532 - n = length-take-le (1532 - n) (drop n w) (rw length-drop (omega arith)) in
     let filling : zeros ≡ replicate (1532 - n) 0 =
-    z ∙ ap (λ (y : List ℕ). replicate (length (take (1532 - n) (drop n (y ++ drop n w)))) 0) e
+    z ∙ ap (λ (y : List ℕ). replicate (length (take (1532 - n) (drop n y))) 0) front
     ∙ ap (λ (y : List ℕ). replicate (length (take (1532 - n) y)) 0) behind ∙ ap (λ (k : ℕ). replicate k 0) room in
-    ap (λ (y : List ℕ). put_mid n (1532 - n) (y ++ drop n w) zeros) e
+    ap (λ (y : List ℕ). put_mid n (1532 - n) y zeros) front
     ∙ ap₂ (λ (y k : List ℕ). y ++ k) (take_at p (drop n w) n refl)
     (ap₂ (λ (y k : List ℕ). y ++ k) filling (ap (drop (1532 - n)) behind ∙ Post-is n 1532 w h))
     ∙ sym (append_assoc p (replicate (1532 - n) 0) (drop 1532 w))
@@ -67,8 +71,12 @@ module _ (w null : List ℕ) (count : ℕ) (room : length w ≡ 1536) (one : len
       let b : length (repeated (k - count) null) ≡ 188 * (k - count) = repeated_length (k - count) null one in
       length-append (take (188 * count) w) (repeated (k - count) null) ∙ omega arith
 
-  pub fill_more : (k : ℕ) (m m' : List ℕ) → k < 8 → Filled w null count k m → m' ≡ paste m (188 * k) null 188 → Filled w null count (k + 1) m'
+  pub fill_more : (k : ℕ) (m m' : List ℕ) → k < 8 → Filled w null count k m → m' ≡ copied null m (188 * k) → Filled w null count (k + 1) m'
   fill_more k m m' h f e =
+      let long : length m ≡ 1536 =
+      ap length f.is ∙ length-append (take (188 * count) w ++ repeated (k - count) null) (drop (188 * k) w)
+      ∙ omega (arith, front_length k f.least f.most, length-drop (188 * k) w) in
+      let pasted : m' ≡ paste m (188 * k) null 188 = e ∙ sym (copied_all null m (188 * k) (omega arith) 188 (sym one)) in
       let n : k - count + 1 ≡ k + 1 - count = omega (arith, f.least) in
       let j : 188 * k + 188 ≡ 188 * (k + 1) = omega arith in
       let r : (take (188 * count) w ++ repeated (k - count) null) ++ null ≡ take (188 * count) w ++ repeated (k + 1 - count) null =
@@ -78,7 +86,7 @@ module _ (w null : List ℕ) (count : ℕ) (room : length w ≡ 1536) (one : len
         least = omega (arith, f.least);
         most = omega arith;
         is =
-            e ∙ ap (λ (l : List ℕ). paste l (188 * k) null 188) f.is
+            pasted ∙ ap (λ (l : List ℕ). paste l (188 * k) null 188) f.is
             ∙ paste_behind w (take (188 * count) w ++ repeated (k - count) null) null (188 * k) 188 (front_length k f.least f.most) one
             ∙ ap₂ (λ (l : List ℕ) (i : ℕ). l ++ drop i w) r j;
       }
