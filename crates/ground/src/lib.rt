@@ -13,3 +13,9 @@ pub const PAYLOAD_WORD: usize = 1536;
 pub const SIGNALLING_WORD: usize = 96;
 // the bits of a signalling word before its CRC (table 14)
 pub const SIGNALLING_LISTS: usize = 750;
+// the puncturing patterns, by number from 0 on (tables 7 and 8)
+pub const PATTERNS: usize = 28;
+// the bytes of a capacity unit: 2,048 bits (clause 4.6)
+pub const CAPACITY_UNIT: usize = 256;
+// the taps of a pipe's disperser (clause 4.10.7)
+pub const TAPS: usize = 32;

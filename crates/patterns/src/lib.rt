@@ -9,15 +9,16 @@ ghost use Rattle.patterns.specs.Blocks.{block_by, unpaired, block_faults};
 ghost use Rattle.patterns.specs.Sent.{code_length};
 
 use ground::refusal::Refusal;
-use ground::{PAYLOAD_BLOCK, SIGNALLING_BLOCK};
+use ground::{PATTERNS, PAYLOAD_BLOCK, SIGNALLING_BLOCK};
 
 // 6 divided by the rate, by pattern number (table 13, CU_Per_CW).
-const UNITS: [u8; 28] = [
+const UNITS: [u8; PATTERNS] = [
     30, 27, 24, 21, 20, 18, 18, 16, 16, 15, 15, 14, 14, 12, 12, 12, 10, 10, 10, 9, 9, 9, 8, 8, 8,
     7, 7, 7,
 ];
 
 // The capacity units of a pattern's codeword; 0 for a number that names no pattern.
+// It is no Option since its promise, `units_of` of specs/Rates.antt, is 0 there.
 pub fn units(pattern: usize) -> u8
     ensures { result ≡ units_of pattern }
 {
@@ -25,6 +26,7 @@ pub fn units(pattern: usize) -> u8
 }
 
 // The length in bits of the codeword of a block of n bits; 0 for a number that names no pattern, and for a block that is longer than the payload's.
+// It is no Option since its promise is 0 there, as `code_length` of specs/Sent.antt is.
 pub fn code_length(pattern: usize, n: usize) -> usize
     ensures { result ≡ choose (ltb 12282 n) 0 (code_length pattern n) }
 {
@@ -36,6 +38,7 @@ pub fn code_length(pattern: usize, n: usize) -> usize
 }
 
 // The bits of the block that a length tells, 0 where there is no such block.
+// It is no Option since its promise, `block_by` of specs/Blocks.antt, is 0 there, which `block_faults` refuses with 1.
 pub fn block_by(payload: usize, signalling: usize, len: usize) -> usize
     ensures { result ≡ block_by payload signalling len }
 {
@@ -62,7 +65,7 @@ pub fn unfit(pattern: usize, n: usize) -> Result<(), Refusal>
     if n == 0 {
         return Err(Refusal::LengthWrong);
     }
-    if 27 < pattern {
+    if PATTERNS <= pattern {
         return Err(Refusal::PatternAbove27);
     }
     if unpaired(pattern, n) {

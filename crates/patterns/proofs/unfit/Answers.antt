@@ -9,9 +9,9 @@ pub returns-then-n-eq0 : goal.returns-then-n-eq0
 unfolding block_faults
 returns-then-n-eq0 c = simp (eq-eqb _ _ c.if-n-eq0.true)
 
-pub returns-then-pattern-gt27 : goal.returns-then-pattern-gt27
+pub returns-then-pattern-ge-PATTERNS : goal.returns-then-pattern-ge-PATTERNS
 unfolding block_faults
-returns-then-pattern-gt27 c = grind (arith, nat_tests)
+returns-then-pattern-ge-PATTERNS c = grind (arith, nat_tests)
 
 pub returns-then-unpaired : goal.returns-then-unpaired
 unfolding block_faults
