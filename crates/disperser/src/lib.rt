@@ -7,6 +7,7 @@ ghost use Rattle.slots.specs.Slots.{frame_bytes};
 ghost use Rattle.slots.specs.Ring.{byte_from, dispersing};
 ghost use Rattle.disperser.specs.Inside.{Gathers};
 
+use ground::TAPS;
 use slots::Way;
 
 // The bytes of an interleaver unit: 512 bits (clause 4.6).
@@ -21,7 +22,7 @@ fn row_back(depth: usize, f: usize, d: usize) -> usize
 }
 
 // The pipe's frame f, unit by unit out of the ring.
-fn collect(y: &Way, delays: &[u16; 32], f: usize, ring: &[u8], out: &mut [u8])
+fn collect(y: &Way, delays: &[u16; TAPS], f: usize, ring: &[u8], out: &mut [u8])
     requires { Gathers y.now delays.now f ring.now out.old }
     ensures { out.new ≡ tab (byte_from y.now f ring.now) 0 (frame_bytes y.now) }
 {
@@ -30,7 +31,7 @@ fn collect(y: &Way, delays: &[u16; 32], f: usize, ring: &[u8], out: &mut [u8])
     let depth = y.profile.greatest as usize + 1;
     for j in 0..whole {
         let at = slots::unit_for(y.regrouping, y.slots, y.units, j as u32);
-        let row = row_back(depth, f, delays[at % units % 32] as usize);
+        let row = row_back(depth, f, delays[at % units % TAPS] as usize);
         let from = (row * whole + at) * UNIT;
         byte_runs::copy(&ring[from..from + UNIT], out, j * UNIT);
     }

@@ -10,7 +10,7 @@ ghost use Rattle.mixer.specs.Mixing.{mixing};
 ghost use Rattle.mixer.specs.Inside.{Round};
 
 use ground::refusal::Refusal;
-use ground::{PAYLOAD_BLOCK, SIGNALLING_BLOCK};
+use ground::{PATTERNS, PAYLOAD_BLOCK, SIGNALLING_BLOCK};
 
 // The bytes of the signalling codeword (clause 4.4.8).
 const SIGNALLING_CODEWORD: usize = 480;
@@ -19,7 +19,7 @@ const SIGNALLING_CODEWORD: usize = 480;
 const SIGNALLING_INCREMENT: u8 = 61;
 
 // CILM_Inc by pattern number (table 12, by the pattern's code rate).
-const INCREMENTS: [u8; 28] = [
+const INCREMENTS: [u8; PATTERNS] = [
     247, 245, 221, 197, 209, 185, 185, 179, 179, 167, 167, 167, 167, 157, 157, 157, 149, 149, 149,
     125, 125, 125, 139, 139, 139, 113, 113, 113,
 ];
@@ -78,7 +78,7 @@ pub fn mix(pattern: u32, codeword: &[u8], out: &mut [u8]) -> Result<(), Refusal>
     ensures { Is (mixing pattern codeword.now out.old) (status result) out.new }
 {
     let p = pattern as usize;
-    if 27 < p {
+    if PATTERNS <= p {
         return Err(Refusal::PatternAbove27);
     }
     let n = patterns::block_by(

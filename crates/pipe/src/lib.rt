@@ -11,13 +11,11 @@ ghost use Rattle.pipe.specs.Frame.{mixed_frame};
 ghost use Rattle.pipe.specs.Piping.{piping};
 ghost use Rattle.pipe.specs.Inside.{Takes};
 
-use ground::PAYLOAD_BLOCK;
 use ground::refusal::Refusal;
+use ground::{CAPACITY_UNIT, PAYLOAD_BLOCK};
 use slots::Way;
 
-// A capacity unit: its bytes, 2,048 bits, and its interleaver units (clause 4.6).
-const CAPACITY_UNIT: usize = 256;
-
+// The interleaver units of a capacity unit (clause 4.6).
 const INTERLEAVER_UNITS: u8 = 4;
 
 // The codewords of a frame, each mixed, go into the ring from a place on.

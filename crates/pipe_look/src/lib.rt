@@ -7,12 +7,7 @@ ghost use Rattle.ground.specs.Refusals.{status};
 ghost use Rattle.pipe_look.specs.Faults.{frame_faults};
 
 use ground::refusal::{Refusal, status};
-
-// The highest pattern number (table 8).
-const PATTERN_MOST: u32 = 27;
-
-// The bytes of a capacity unit: 2,048 bits (clause 4.6).
-const CAPACITY_UNIT: usize = 256;
+use ground::{CAPACITY_UNIT, PATTERNS};
 
 // Why a frame of a pipe whose profile is not refused is not made, if so: by the greatest delay, its pattern and width, and the lengths that are lent.
 pub fn look(
@@ -25,11 +20,12 @@ pub fn look(
 ) -> Result<(), Refusal>
     ensures { status result ≡ first_of (frame_faults 0 greatest pattern width codewords memory out) }
 {
-    if PATTERN_MOST < pattern {
+    let p = pattern as usize;
+    if PATTERNS <= p {
         return Err(Refusal::PatternAbove27);
     }
     let size = width as usize * CAPACITY_UNIT;
-    if width % patterns::units(pattern as usize) as u16 != 0
+    if width % patterns::units(p) as u16 != 0
         || codewords != size
         || memory != (greatest as usize + 1) * size
         || out != size

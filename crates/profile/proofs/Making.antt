@@ -1,10 +1,13 @@
 -- The lengths of a pipe as it is lent, as the code reads them.
 -- Assumes nothing.
-use Prim.Native.Nat.{ℕ, ◌≤◌, ◌<◌}
+use Prim.Native.Nat.{ℕ, ◌-◌, ◌≤◌, ◌<◌}
 use mathlib.Core.Path.{◌≡◌, refl, sym, ap, ap₂, ◌∙◌, subst}
+use mathlib.Core.Bool.{Bool, true, false, not}
 use mathlib.Core.List.{List}
 use native.Mathlib.Nat.{zero-add}
+use lib.Dec.{eqb}
 use lib.ListN.{length, get_or}
+use Rattle.ground.specs.Choice.{choose}
 use Rattle.ground.specs.Table.{tab}
 use Rattle.ground.proofs.Table.{get_or_tab, tab_ext}
 use Rattle.bits.specs.Places.{field_at}
@@ -29,6 +32,15 @@ module _ (l : List ℕ) where
   pub fract_is : field_at l 40 4 ≡ tap_diff_mult_fract116 (lent_fields l)
   unfolding lent_fields row_at row_from
   fract_is = refl
+
+-- the flag as the code has it, a test
+pub flip_is : (inv k : ℕ) → choose (not (eqb inv 0)) (31 - k) k ≡ flipped inv k
+unfolding flipped
+flip_is inv k = other (eqb inv 0)
+  where
+    other : (b : Bool) → choose (not b) (31 - k) k ≡ choose b k (31 - k)
+    other true = refl
+    other false = refl
 
 -- the lengths before the multipliers
 module _ (l : List ℕ) (n : ℕ) (lens : List ℕ) (e : lens ≡ tab (intermed_len (sections_at n l)) 0 32) (i : ℕ) (h : i < 32) where

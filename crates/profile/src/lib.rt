@@ -1,13 +1,15 @@
 // The disperser's profile of a pipe (clause 4.10.7). The pipe is lent as its record of six bytes and its sections of two bytes each, as they stand in a sheet.
 #![tactic(auto)]
 
-ghost use Rattle.std.specs.Prelude.{◌≡◌, ◌≤◌, ◌<◌, length};
+ghost use Rattle.std.specs.Prelude.{◌≡◌, ◌-◌, ◌≤◌, ◌<◌, length};
+ghost use Rattle.ground.specs.Choice.{choose};
 ghost use Rattle.ground.specs.Outcome.{Is};
 ghost use Rattle.ground.specs.Refusals.{status};
 ghost use Rattle.tap_lengths.specs.Sections.{sections_at};
-ghost use Rattle.profile.specs.Profile.{tap_length_by, flipped, profile_of};
+ghost use Rattle.profile.specs.Profile.{tap_length_by, profile_of};
 ghost use Rattle.profile.specs.Lent.{lent_fields, told, profiled, numbers_of, profiling};
 
+use ground::TAPS;
 use ground::refusal::Refusal;
 use slots::Profile;
 
@@ -16,11 +18,8 @@ const RECORD: usize = 6;
 
 const SECTION: usize = 2;
 
-// The taps of all sections together.
-const TAPS: u32 = 32;
-
-// The numbers of a profile that is handed out: 32 lengths and the greatest delay.
-const NUMBERS: usize = 33;
+// The numbers of a profile that is handed out: a length for each tap and the greatest delay.
+const NUMBERS: usize = TAPS + 1;
 
 // Tap_Length by the multipliers' fields: the fraction first, rounded down.
 fn tap_length(int: u32, fract: u32, len: u16) -> u16
@@ -31,11 +30,11 @@ fn tap_length(int: u32, fract: u32, len: u16) -> u16
 }
 
 // The element that comes to place k where the vector is flipped.
-fn flipped(inv: u32, k: usize) -> usize
+fn flipped(inv: bool, k: usize) -> usize
     requires { k < 32 }
-    ensures { (result ≡ flipped inv k) × (result < 32) }
+    ensures { (result ≡ choose inv (31 - k) k) × (result < 32) }
 {
-    if inv == 0 { k } else { 31 - k }
+    if inv { 31 - k } else { k }
 }
 
 // The profile of a pipe with n sections.
@@ -44,10 +43,10 @@ fn made(pipe: &[u8], n: u8) -> Profile
 {
     let lens = tap_lengths::lengths(pipe, n);
     // Disperser_Inv_Flag, Tap_Diff_Mult_Int_1 and Tap_Diff_Mult_Fract_1_16 (table 16)
-    let inv = bits::field(pipe, 24, 1);
+    let inv = bits::field(pipe, 24, 1) != 0;
     let int = bits::field(pipe, 36, 4);
     let fract = bits::field(pipe, 40, 4);
-    let mut taps = [0; 32];
+    let mut taps = [0; TAPS];
     for (k, tap) in taps.iter_mut().enumerate() {
         let j = flipped(inv, k);
         *tap = tap_length(int, fract, lens[8 * (j % 4) + j / 4]);
@@ -63,7 +62,7 @@ pub fn of(pipe: &[u8]) -> Result<Profile, Refusal>
     ensures { told result ≡ profiled pipe.now }
 {
     let n = records::pipe_at(pipe, 0, 0).d as u8;
-    if pipe.len() != RECORD + SECTION * n as usize || tap_lengths::total(pipe, n) != TAPS {
+    if pipe.len() != RECORD + SECTION * n as usize || tap_lengths::total(pipe, n) != TAPS as u32 {
         return Err(Refusal::ProfileWrong);
     }
     Ok(made(pipe, n))
@@ -74,8 +73,8 @@ fn put(p: Profile, out: &mut [u16])
     requires { length out.old ≡ 33 }
     ensures { out.new ≡ numbers_of p }
 {
-    out[..32].copy_from_slice(&p.taps);
-    out[32] = p.greatest;
+    out[..TAPS].copy_from_slice(&p.taps);
+    out[TAPS] = p.greatest;
 }
 
 // Writes the profile of a pipe into the lent numbers; or says why not, and leaves them as they were.

@@ -6,10 +6,11 @@ ghost use Rattle.patterns.specs.Rows.{digit};
 ghost use Rattle.puncturing.specs.Entries.{entries};
 ghost use Rattle.puncturing.specs.Inside.{spaced, entry_from};
 
+use ground::PATTERNS;
 use std::array;
 
 // The data rows by pattern number. A group is five bits, X Y0 Y1 Y'0 Y'1; the row is repeated up to twelve groups, which every row's length divides.
-const DATA: [u64; 28] = [
+const DATA: [u64; PATTERNS] = [
     0b11111_11111_11111_11111_11111_11111_11111_11111_11111_11111_11111_11111, // 0: h
     0b10111_11111_11101_11111_10111_11111_11101_11111_10111_11111_11101_11111, // 1: 10111 h 11101 h
     0b11101_11011_11101_11011_11101_11011_11101_11011_11101_11011_11101_11011, // 2: 11101 11011
@@ -41,7 +42,8 @@ const DATA: [u64; 28] = [
 ];
 
 // The tail rows by pattern number: three octal digits are the copies of X Y0 Y1, and in the last three of the six of X' Y'0 Y'1.
-const TAIL: [u64; 28] = [
+// It stands beside the data rows and not in one table with them: they are tables 7 and 8 of the standard, and each is read against its own page.
+const TAIL: [u64; PATTERNS] = [
     0o311_311_311_311_311_311, // 0
     0o311_311_211_211_211_311, // 1
     0o211_211_211_211_211_211, // 2

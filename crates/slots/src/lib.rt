@@ -6,11 +6,13 @@ ghost use Rattle.ground.specs.Table.{tab};
 ghost use Rattle.slots.specs.Disperser.{tap_delay};
 ghost use Rattle.slots.specs.Collector.{unit_for};
 
+use ground::TAPS;
+
 // The receiver's 32 tap lengths, with the greatest delay beside them.
 #[repr(C)]
 #[derive(Clone, Copy)]
 pub struct Profile {
-    pub taps: [u16; 32],
+    pub taps: [u16; TAPS],
     pub greatest: u16,
 }
 
@@ -25,7 +27,7 @@ pub struct Way {
 }
 
 // Tap_Delay (clause 4.10.7): our delays, of which the receiver's taps make up the greatest.
-pub fn tap_delays(p: Profile) -> [u16; 32]
+pub fn tap_delays(p: Profile) -> [u16; TAPS]
     ensures { result ≡ tab (tap_delay p) 0 32 }
 {
     p.taps.map(|t| p.greatest.saturating_sub(t))

@@ -9,6 +9,8 @@ ghost use Rattle.tap_lengths.specs.Lengths.{tap_total, intermed_len};
 ghost use Rattle.tap_lengths.specs.Sections.{section_at, sections_at};
 ghost use Rattle.tap_lengths.specs.Inside.{Narrow, onward_of};
 
+use ground::TAPS;
+
 // The first bit of the first section: six bytes, then four bits that are not looked at; and how far apart sections are.
 const SECTIONS: usize = 52;
 
@@ -87,10 +89,10 @@ fn onward(pipe: &[u8], n: u8, t: Tap) -> Tap
 }
 
 // The intermediate lengths of the first 32 taps of n sections, of which the first begins at 0.
-pub fn lengths(pipe: &[u8], n: u8) -> [u16; 32]
+pub fn lengths(pipe: &[u8], n: u8) -> [u16; TAPS]
     ensures { result ≡ tab (intermed_len (sections_at n pipe.now)) 0 32 }
 {
-    let mut lens = [0; 32];
+    let mut lens = [0; TAPS];
     if n == 0 {
         return lens;
     }

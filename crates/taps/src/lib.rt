@@ -10,11 +10,9 @@ ghost use Rattle.description.specs.Description.{own_sections};
 ghost use Rattle.description.specs.Tests.{taps_of, tap_fault};
 ghost use Rattle.views.specs.Rows.{rows_at};
 
+use ground::TAPS;
 use records::Pipe;
 use views::View;
-
-// The taps that a payload pipe in use has (clause 4.10.7).
-const TAPS: u32 = 32;
 
 // The taps of n sections, so many bits apart, whose first stands at a place.
 #[tactic(auto, using(bits::proofs::Places::field_lt))]
@@ -36,7 +34,7 @@ fn taps_wrong(w: &[u8], q: Pipe, at: usize, apart: u32) -> bool
     requires { at < 2 ^ 63 }
     ensures { result ≡ both (not (eqb q.width 0)) (not (eqb (total taps_of (fields_at w.now at apart 4 q.d)) 32)) }
 {
-    q.width != 0 && taps_at(w, at, apart, q.d) != TAPS
+    q.width != 0 && taps_at(w, at, apart, q.d) != TAPS as u32
 }
 
 // 10: whether one of the p payload pipes is in use without 32 taps; their sections stand in the order of the pipes.

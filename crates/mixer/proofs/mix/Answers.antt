@@ -10,9 +10,9 @@ use Rattle.mixer.proofs.Mixes.{block_told, mix_able, mix_done}
 use Rattle.mixer.proofs.mix.Goals as goal
 use Rattle.mixer.proofs.mix.Goals.{then-is_err-via-then-is_err, then-is_err-via-else-is_err+then-out-codeword}
 
-pub returns-then-p-gt27 : goal.returns-then-p-gt27
+pub returns-then-p-ge-PATTERNS : goal.returns-then-p-ge-PATTERNS
 unfolding mixing mix_faults
-returns-then-p-gt27 c = search rules
+returns-then-p-ge-PATTERNS c = search rules
 
 pub returns-then-is_err : goal.returns-then-is_err
 unfolding mixing mix_faults

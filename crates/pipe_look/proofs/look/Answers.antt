@@ -6,9 +6,9 @@ use Rattle.pipe_look.specs.Faults.{frame_faults}
 use Rattle.pipe_look.proofs.look.Goals as goal
 use Rattle.pipe_look.proofs.look.Goals.{then-width-units-ne0-via-then-width-units-ne0, then-width-units-ne0-via-else-width-units-ne0+then-codewords-size, then-width-units-ne0-via-else-width-units-ne0+else-codewords-size+then-memory-greatest, then-width-units-ne0-via-else-width-units-ne0+else-codewords-size+else-memory-greatest+then-out-size}
 
-pub returns-then-pattern-gt-PATTERN_MOST : goal.returns-then-pattern-gt-PATTERN_MOST
+pub returns-then-p-ge-PATTERNS : goal.returns-then-p-ge-PATTERNS
 unfolding frame_faults
-returns-then-pattern-gt-PATTERN_MOST c = search rules
+returns-then-p-ge-PATTERNS c = search rules
 
 pub nonzero_rem-width : goal.nonzero_rem-width
 nonzero_rem-width c = omega (arith, c.units.ensures, units_some c.args.pattern (omega arith))

@@ -1,7 +1,5 @@
 -- `pipe_look::refusal` meets its contract. Assumes nothing.
 use borrow.Author.Rules.{rules}
-use mathlib.Core.Path.{◌∙◌}
-use native.Mathlib.Omega.{arith}
 use Rattle.pipe_look.specs.Faults.{frame_faults}
 use Rattle.pipe_look.proofs.refusal.Goals as goal
 

@@ -9,7 +9,7 @@ use Rattle.tap_lengths.specs.Lengths.{intermed_len}
 use Rattle.tap_lengths.specs.Sections.{sections_at}
 use Rattle.profile.specs.Profile.{tap_length, by_columns, flipped, max_delay}
 use Rattle.profile.specs.Lent.{lent_fields}
-use Rattle.profile.proofs.Making.{tap_at, inv_is, len_small, tap_length_is, made_is}
+use Rattle.profile.proofs.Making.{tap_at, inv_is, flip_is, len_small, tap_length_is, made_is}
 use Rattle.profile.proofs.made.Goals as goal
 
 pub tap_length-requires : goal.tap_length-requires
@@ -27,7 +27,7 @@ loop-k-preserved c =
     let sections = sections_at a.n a.pipe.now in
     let t = tap_length_is a.pipe.now a.n c.lengths-lens.result c.lengths-lens.ensures (by_columns j.result) (omega arith) c.field-int.result c.field-fract.result r
     c.field-int.ensures c.field-fract.ensures c.tap_length.ensures in
-    let e : j.result ≡ flipped (disperser_inv_flag fields) l.k = j.ensures.0 ∙ ap (λ (x : ℕ). flipped x l.k) (c.field-inv.ensures ∙ inv_is a.pipe.now) in
+    let e : j.result ≡ flipped (disperser_inv_flag fields) l.k = j.ensures.0 ∙ flip_is c.field-inv.result l.k ∙ ap (λ (x : ℕ). flipped x l.k) (c.field-inv.ensures ∙ inv_is a.pipe.now) in
     fill_more (tap_at fields sections) 0 l.tap-items l.k r (omega arith) (t ∙ ap (λ (x : ℕ). tap_length fields (intermed_len sections (by_columns x))) e) l.invariant
 
 pub tap_length-requires-2 : goal.tap_length-requires-2
