@@ -14,16 +14,16 @@ ghost use Rattle.interleaver.specs.Inside.{
   Gathered,
 };
 
+use rows::SECOND;
 use wide::{Wide, put};
 
 // half the rows of the payload's block, and of the signalling word's
 const PAYLOAD_HALF: usize = 256;
 
 const SIGNALLING_HALF: usize = 16;
-// of two rows in a number, the second stands above 32 bits
-const SECOND: u64 = 1 << 32;
 
 // A block of n bits in pairs: of either size, though the short one is read by the list (docs/DECISIONS.md, 122).
+// Which of the two it is is told by n itself, as `rows_of` is told: an enum would need a method that gives n again, and every clause below a definition of that.
 #[derive(Drop)]
 pub struct Pairs<'a> {
     pub n: usize,
@@ -57,6 +57,7 @@ impl Pairs<'_> {
     }
 
     // The row j into the sink: 24 bits, or 23 where it is cut short.
+    // That fewer than 32 bits wait is no fact of `Wide` itself: whoever builds one would be asked for it, and `wide::put` takes any.
     fn put_row(&self, out: &mut [u8; 1536], s: Wide, j: usize, v: u64) -> Wide
         requires { (j ≤ 512) × (s.used < 32) × (v < 16777216) × (place_of s + 24 ≤ 12288) }
         ensures { Put (row_value (short_at self.now.n j) v) (row_width (short_at self.now.n j)) out.old s out.new result }
@@ -103,12 +104,7 @@ impl Pairs<'_> {
     {
         let mut rows = [[0u32; 2]; PAYLOAD_HALF];
         self.fill(&mut rows);
-        let s = Wide {
-            acc: 0,
-            used: 0,
-            at: 0,
-        };
-        let half = self.put_rows(out, s, &rows, 0);
+        let half = self.put_rows(out, Wide::new(0), &rows, 0);
         let whole = self.put_rows(out, half, &rows, 1);
         put(out, whole, 0, 6);
     }

@@ -14,7 +14,7 @@ const PAYLOAD_ROWS: usize = 512;
 
 const SIGNALLING_ROWS: usize = 32;
 // of two rows of 24 bits in a number, the second stands above 32 bits
-const SECOND: u64 = 1 << 32;
+pub const SECOND: u64 = 1 << 32;
 
 // A row of a block in pairs, of 24 segments of `size` pairs each.
 #[derive(Drop)]
@@ -68,6 +68,7 @@ fn two(a: u64, b: u64, c: u64, d: u64) -> u64
 
 // What the pairs of the row j of a block of n bits spell, and above 32 bits the row half of all rows on, by table 10's entries for n = 9 and n = 5. It is 0 for a row from 512 on, and of
 // another number of pairs than the block has.
+// It is no Option since its promise, `rows_of` of specs/Spelt.antt, is 0 there.
 pub fn rows_of(n: usize, d: &[u8], j: usize) -> u64
     ensures { result ≡ rows_of n d.now j }
 {

@@ -14,7 +14,8 @@ put_rows-half-requires c =
     let p = c.args.self.now in
     let s : Wide = record { acc = 0; used = 0; at = 0 } in
     let start = subst (λ (out : List ℕ). Gathering p.n p.d.now out s 0) (sym c.requires) (gathering_none p.n (block_is p.n p.block) p.d.now p.paired) in
-    (omega arith, c.fill.ensures, subst (Gathering p.n p.d.now c.args.out.now s) {x = 0} {y = 0 * half_of p.n} (omega arith) start)
+    let none = subst (Gathering p.n p.d.now c.args.out.now s) {x = 0} {y = 0 * half_of p.n} (omega arith) start in
+    (omega arith, c.fill.ensures, subst (λ (s : Wide). Gathering p.n p.d.now c.args.out.now s (0 * half_of p.n)) (sym c.new.ensures) none)
 
 pub put_rows-whole-requires : goal.put_rows-whole-requires
 put_rows-whole-requires c =
