@@ -23,7 +23,7 @@ const PAYLOAD_HALF: usize = 256;
 const SIGNALLING_HALF: usize = 16;
 
 // A block of n bits in pairs: of either size, though the short one is read by the list (docs/DECISIONS.md, 122).
-// Which of the two it is is told by n itself, as `rows_of` is told: an enum would need a method that gives n again, and every clause below a definition of that.
+// n tells which of the two, as it tells `rows_of`: an enum would need a method that gives n again, and every clause below the definition of that method.
 #[derive(Drop)]
 pub struct Pairs<'a> {
     pub n: usize,

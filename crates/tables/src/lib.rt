@@ -16,6 +16,15 @@ pub struct Plan {
     pub k1: usize,
 }
 
+impl Plan {
+    // Before the tables are made: a constant, since an array that a function hands up stands on the stack twice.
+    pub const EMPTY: Plan = Plan {
+        look: [0; 384],
+        k0: 0,
+        k1: 0,
+    };
+}
+
 // The tables by a pattern's groups into the lent ones, whatever they held. Of the groups the first twelve are read: a symbol of the data is sent once or not at all.
 pub fn plan_into(rows: &[u16; 18], plan: &mut Plan)
     ensures { plan.new ≡ plan_of rows.now }
@@ -35,11 +44,7 @@ pub fn plan_into(rows: &[u16; 18], plan: &mut Plan)
 pub fn plan_of(rows: &[u16; 18]) -> Plan
     ensures { result ≡ plan_of rows.now }
 {
-    let mut plan = Plan {
-        look: [0; 384],
-        k0: 0,
-        k1: 0,
-    };
+    let mut plan = Plan::EMPTY;
     plan_into(rows, &mut plan);
     plan
 }

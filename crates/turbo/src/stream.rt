@@ -81,11 +81,7 @@ pub fn code(pattern: usize, n: usize, word: &[u8], second: &[u8], out: &mut [u8]
     ensures { out.new ≡ packed (code_bit pattern n word.now) (length out.old) }
 {
     let rows = puncturing::entries(pattern);
-    let mut plan = Plan {
-        look: [0; 384],
-        k0: 0,
-        k1: 0,
-    };
+    let mut plan = Plan::EMPTY;
     tables::plan_into(&rows, &mut plan);
     let c = send(out, word, second, pattern, n, &plan);
     let tail = tail::run_of(&rows, c.both);
