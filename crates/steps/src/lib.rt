@@ -27,7 +27,8 @@ pub fn pipes_at(word: &[u8], at: u32) -> u16
 pub fn owned_by(word: &[u8], at: u32, p: u16) -> Share
     ensures { result ≡ owned_at word.now at (p % 256) }
 {
-    sheets::owned::owned_at(word, at, (p % 256) as u8)
+    let [low, _] = p.to_le_bytes();
+    sheets::owned::owned_at(word, at, low)
 }
 
 // The place behind n records of so many bits.

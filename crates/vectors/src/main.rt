@@ -3,13 +3,10 @@
 // in compare/.
 #![tactic(auto)]
 
+use ground::{PATTERNS, PAYLOAD_WORD, SIGNALLING_WORD};
 use std::io;
 
-// The words, in bytes, and the longest codeword.
-const PAYLOAD_WORD: usize = 1536;
-
-const SIGNALLING_WORD: usize = 96;
-
+// The longest codeword, in bytes.
 const LONGEST: usize = 7680;
 
 // The number after x in a sequence (xorshift).
@@ -24,7 +21,8 @@ fn fill(word: &mut [u8]) {
     let mut x = 1;
     for byte in word.iter_mut() {
         x = next(x);
-        *byte = (x % 256) as u8;
+        let [low, ..] = x.to_le_bytes();
+        *byte = low;
     }
 }
 
@@ -88,7 +86,7 @@ fn print_case(rt: &impl Print, pattern: u32, word: &[u8]) -> io::Result<()> {
 
 // The cases of a word under each pattern.
 fn print_cases(rt: &impl Print, word: &[u8]) -> io::Result<()> {
-    for pattern in 0..28 {
+    for pattern in 0..PATTERNS as u32 {
         print_case(rt, pattern, word)?;
     }
     Ok(())
