@@ -19,3 +19,7 @@ pub const PATTERNS: usize = 28;
 pub const CAPACITY_UNIT: usize = 256;
 // the taps of a pipe's disperser (clause 4.10.7)
 pub const TAPS: usize = 32;
+// First_Header_Address (table 5): the last place of a payload where a header fits, and the number that says that none begins in the word
+pub const LAST_HEADER: usize = 1502;
+
+pub const NO_HEADER: usize = 0xFFF;

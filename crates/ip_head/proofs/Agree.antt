@@ -9,6 +9,12 @@ use Rattle.ground.proofs.Outcome.{same}
 use Rattle.ip_head.specs.contracts.fits as fits
 use Rattle.ip_head.proofs.fits.Kinds as fits_kinds
 use Rattle.ip_head.proofs.fits.Reads as fits_reads
+use Rattle.ip_head.specs.contracts.address_after as address_after
+use Rattle.ip_head.proofs.address_after.Kinds as address_after_kinds
+use Rattle.ip_head.proofs.address_after.Reads as address_after_reads
+use Rattle.ip_head.specs.contracts.unsendable as unsendable
+use Rattle.ip_head.proofs.unsendable.Kinds as unsendable_kinds
+use Rattle.ip_head.proofs.unsendable.Reads as unsendable_reads
 use Rattle.ip_head.specs.contracts.error_bit as error_bit
 use Rattle.ip_head.proofs.error_bit.Kinds as error_bit_kinds
 use Rattle.ip_head.proofs.error_bit.Reads as error_bit_reads
@@ -26,6 +32,16 @@ module _ (κs : Lfts 0) (a : ArgsD fits.signature κs) where
   pub fits_agrees : (r r' : ResD fits.signature κs) (s s' : AtExit (ended_of 0 fits_kinds.ps fits_kinds.r) κs) →
       fits_reads.Post κs a r s → fits_reads.Post κs a r' s' → r ≡ r'
   fits_agrees r r' s s' p q = same p q
+
+module _ (κs : Lfts 0) (a : ArgsD address_after.signature κs) where
+  pub address_after_agrees : (r r' : ResD address_after.signature κs) (s s' : AtExit (ended_of 0 address_after_kinds.ps address_after_kinds.r) κs) →
+      address_after_reads.Post κs a r s → address_after_reads.Post κs a r' s' → r ≡ r'
+  address_after_agrees r r' s s' p q = same p.0 q.0
+
+module _ (κs : Lfts 0) (a : ArgsD unsendable.signature κs) where
+  pub unsendable_agrees : (r r' : ResD unsendable.signature κs) (s s' : AtExit (ended_of 0 unsendable_kinds.ps unsendable_kinds.r) κs) →
+      unsendable_reads.Post κs a r s → unsendable_reads.Post κs a r' s' → r ≡ r'
+  unsendable_agrees r r' s s' p q = same p q
 
 module _ (κs : Lfts 0) (a : ArgsD error_bit.signature κs) where
   pub error_bit_agrees : (r r' : ResD error_bit.signature κs) (s s' : AtExit (ended_of 0 error_bit_kinds.ps error_bit_kinds.r) κs) →

@@ -1,19 +1,37 @@
-// The header of a packet in an IP stream, two bytes (clause 4.3.4, table 6): where it fits, its error bit, and all of it as it is read.
+// The header of a packet in an IP stream, two bytes (clause 4.3.4, table 6): where it fits and how it is announced, which packets have one,
+// its error bit, and all of it as it is read.
 #![tactic(auto)]
 
 ghost use Rattle.std.specs.Prelude.{◌≡◌, ◌≤◌, ◌<◌, eqb, leb};
 ghost use Rattle.ground.specs.Choice.{choose, either};
 ghost use Rattle.ip.specs.Packet.{stuffing};
+ghost use Rattle.ip.specs.Memory.{unfit};
+ghost use Rattle.ip.specs.Write.{announced};
 ghost use Rattle.ip_head.specs.Header.{head_in};
 
-// The last place of a payload where a header fits.
-pub const LAST_HEADER: usize = 1502;
+pub use ground::LAST_HEADER;
+use ground::NO_HEADER;
 
 // Whether a header fits at a place of the payload: it is never split.
 pub fn fits(at: usize) -> bool
     ensures { result ≡ leb at 1502 }
 {
     at <= LAST_HEADER
+}
+
+// First_Header_Address where so many bytes of an open packet come first: FFF where no header fits behind them.
+pub fn address_after(rest: usize) -> usize
+    ensures { (result ≡ announced rest) × (result < 4096) }
+{
+    if rest <= LAST_HEADER { rest } else { NO_HEADER }
+}
+
+// A packet that is not sent: a type that is not 1 or 2, or a length that is not 1 to 4,095. A queue and the memory of an open packet have a
+// byte and two for them; what two bits and twelve can hold is asked by `unfit`.
+pub fn unsendable(kind: u8, n: usize) -> bool
+    ensures { result ≡ unfit kind n }
+{
+    !(1..=2).contains(&kind) || !(1..=4095).contains(&n)
 }
 
 // IP_Packet_Error of an error byte: 0 for 0, 1 for any other.

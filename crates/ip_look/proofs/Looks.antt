@@ -9,7 +9,7 @@ use lib.Dec.{eqb}
 use lib.ListN.{length, get_or, take, drop}
 use borrow.Author.Tests.{eq-eqb}
 use lib.Seq.{drop-drop}
-use Rattle.std.specs.Prelude.{Some, None}
+use Rattle.std.specs.Prelude.{Ok, Err}
 use Rattle.std.specs.List.{list_any}
 use Rattle.std.proofs.lemmas.List.{take_rest}
 use Rattle.ground.specs.Choice.{both, either, any}
@@ -21,7 +21,7 @@ use Rattle.ip.specs.Memory.{open_in}
 use Rattle.ip_head.specs.declared.Head.{Head}
 use Rattle.ip_head.specs.Header.{head_in}
 use Rattle.ip_open.specs.declared.Opened.{Opened}
-use Rattle.ip_open.specs.Opening.{opened_in, where_begun}
+use Rattle.ip_open.specs.Opening.{opened_in, told}
 use Rattle.ip_open.proofs.Means.{means_none, means_begun, means_sound}
 use Rattle.ip_look.specs.Looking.{got_of}
 use Rattle.ip_look.specs.Steps.{walk_from}
@@ -74,11 +74,11 @@ module _ (l : List ℕ) (whole : Bool) (left : whole ≡ (walk 0 l).refused) whe
           ∙ ap (λ (i : ℕ). (walk_from i l).refused) (omega arith) ∙ ap (λ (x : List ℕ). (walk 0 x).refused) (sym f)
 
 -- with the open packet that the memory means
-pub look_none : (m l : List ℕ) (address : ℕ) → None ≡ where_begun (opened_in m) → (r : Bool) → r ≡ (walk_from address l).refused
+pub look_none : (m l : List ℕ) (address : ℕ) (o : Opened) → told (Err o) ≡ opened_in m → (r : Bool) → r ≡ (walk_from address l).refused
     → r ≡ (reading (open_in m) address l).refused
-look_none m l address w r f = f ∙ sym (ap (λ (x : Open). (reading x address l).refused) (means_none m w) ∙ ap (λ g. g.refused) (none_reads address l))
+look_none m l address o w r f = f ∙ sym (ap (λ (x : Open). (reading x address l).refused) (means_none m o w) ∙ ap (λ g. g.refused) (none_reads address l))
 
-module _ (m l : List ℕ) (address : ℕ) (o : Opened) (w : Some o ≡ where_begun (opened_in m)) (h : length m ≡ 4104) where
+module _ (m l : List ℕ) (address : ℕ) (o : Opened) (w : told (Ok o) ≡ opened_in m) (h : length m ≡ 4104) where
   abbrev s : List ℕ
   s = take o.sofar (drop 8 m)
 

@@ -16,7 +16,7 @@ use infoword::{STREAM_TYPE, StreamType};
 use ip_open::ROOM;
 
 // The payload of a word of type 3, in bytes (table 5).
-pub const PAYLOAD: usize = 1504;
+pub use infoword::TRANSPORT_BYTES as PAYLOAD;
 
 // The most bytes that one word hands out, and those of a header as it is handed to C.
 const PACKETS: usize = 6604;

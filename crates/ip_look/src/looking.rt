@@ -1,14 +1,10 @@
 // The first pass over a payload, which writes nothing: whether it is refused, with 19.
 ghost use Rattle.std.specs.Prelude.{◌≡◌, drop};
-ghost use Rattle.ip.specs.Write.{announced};
 ghost use Rattle.ip.specs.Read.{stray, walk, reading};
 ghost use Rattle.ip.specs.Memory.{open_in};
 
-use ip_head::{LAST_HEADER, head_of, is_padding, unfit};
+use ip_head::{address_after, head_of, is_padding, unfit};
 use ip_open::{ROOM, open_in};
-
-// First_Header_Address where no header begins in the word (table 5).
-const NO_HEADER: usize = 0xFFF;
 
 // What stands from a place on: nothing, where that is past the end.
 fn from(bytes: &[u8], at: usize) -> &[u8]
@@ -44,19 +40,11 @@ fn heads_refused(bytes: &[u8]) -> bool
     has_stray(left)
 }
 
-// First_Header_Address where so many bytes of an open packet come first: FFF where no header fits behind them. The writer has its own in
-// ip_queue, and neither crate stands on the other.
-fn address_after(rest: usize) -> usize
-    ensures { result ≡ announced rest }
-{
-    if rest <= LAST_HEADER { rest } else { NO_HEADER }
-}
-
 // Whether a payload is refused.
 pub fn payload_refused(payload: &[u8], memory: &[u8; ROOM], address: usize) -> bool
     ensures { result ≡ (reading (open_in memory.now) address payload.now).refused }
 {
-    let Some(o) = open_in(memory) else {
+    let Ok(o) = open_in(memory) else {
         return heads_refused(from(payload, address));
     };
     let rest = o.length - o.sofar;

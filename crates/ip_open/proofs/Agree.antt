@@ -7,6 +7,7 @@ use borrow.Fn.Kinds.{ended_of}
 use denote.Triple.Clauses.{AtExit}
 use Rattle.ground.proofs.Outcome.{same}
 use Rattle.ground.proofs.Refusals.{agree_status}
+use Rattle.ip_open.proofs.Means.{told_same}
 use Rattle.ip_open.specs.contracts.open_in as open_in
 use Rattle.ip_open.proofs.open_in.Kinds as open_in_kinds
 use Rattle.ip_open.proofs.open_in.Reads as open_in_reads
@@ -17,7 +18,7 @@ use Rattle.ip_open.proofs.lost.Reads as lost_reads
 module _ (κs : Lfts 1) (a : ArgsD open_in.signature κs) where
   pub open_in_agrees : (r r' : ResD open_in.signature κs) (s s' : AtExit (ended_of 1 open_in_kinds.ps open_in_kinds.r) κs) →
       open_in_reads.Post κs a r s → open_in_reads.Post κs a r' s' → r ≡ r'
-  open_in_agrees r r' s s' p q = same p q
+  open_in_agrees r r' s s' p q = told_same r r' (same p q)
 
 module _ (κs : Lfts 1) (a : ArgsD lost.signature κs) where
   pub lost_agrees : (r r' : ResD lost.signature κs) (s s' : AtExit (ended_of 1 lost_kinds.ps lost_kinds.r) κs) →

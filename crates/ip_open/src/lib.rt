@@ -6,17 +6,18 @@ ghost use Rattle.ground.specs.Outcome.{Is};
 ghost use Rattle.ground.specs.Choice.{both};
 ghost use Rattle.ground.specs.Refusals.{status};
 ghost use Rattle.ip.specs.Memory.{unfit};
-ghost use Rattle.ip_open.specs.Opening.{opened_in, where_begun, dropping};
+ghost use Rattle.ip_open.specs.Opening.{opened_in, told, dropping};
 
 use ground::refusal::Refusal;
 
 // The bytes of that memory.
 pub const ROOM: usize = 4104;
 
-// An open packet without its bytes. That its length is at most 4,095 is no ghost field: the numbers could not stand in one before they are
-// tested, and open_in would have to promise of a record beside this one.
+// An open packet without its bytes. That its length is at most 4,095 is no ghost field: open_in tells also of numbers that are none of an
+// open packet.
 #[derive(Clone, Copy)]
 pub struct Opened {
+    // IP_Packet_Type as a byte, since any can stand in the memory; what is handed out has it as one too
     pub kind: u8,
     pub error: u8,
     pub length: usize,
@@ -29,17 +30,16 @@ fn is_open(mark: u8, spare: u8, o: Opened) -> bool
     ensures { result ≡ both (eqb mark 1) (both (not (unfit o.kind o.length)) (both (ltb o.error 2) (both (eqb spare 0) (ltb o.sofar o.length)))) }
 {
     mark == 1
-        && (1..=2).contains(&o.kind)
-        && (1..=4095).contains(&o.length)
+        && !ip_head::unsendable(o.kind, o.length)
         && o.error < 2
         && spare == 0
         && o.sofar < o.length
 }
 
 // The open packet that lent memory means: 1, type, error, 0, length (two bytes), how many bytes are there so far (two), and those bytes. Past
-// the end of the memory zeros are read.
-pub fn open_in(memory: &[u8]) -> Option<Opened>
-    ensures { result ≡ where_begun (opened_in memory.now) }
+// the end of the memory zeros are read. An Err has the numbers too: the promise says what they are, whether a packet is open or not.
+pub fn open_in(memory: &[u8]) -> Result<Opened, Opened>
+    ensures { told result ≡ opened_in memory.now }
 {
     let mark = bits::byte(memory, 0);
     let spare = bits::byte(memory, 3);
@@ -49,7 +49,11 @@ pub fn open_in(memory: &[u8]) -> Option<Opened>
         length: byte_runs::two(bits::byte(memory, 4), bits::byte(memory, 5)),
         sofar: byte_runs::two(bits::byte(memory, 6), bits::byte(memory, 7)),
     };
-    is_open(mark, spare, opened).then_some(opened)
+    if is_open(mark, spare, opened) {
+        Ok(opened)
+    } else {
+        Err(opened)
+    }
 }
 
 // A word was lost: what was open is dropped, so that nothing is handed out that was not a whole packet. The 4,104 bytes of the open

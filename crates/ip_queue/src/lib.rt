@@ -4,27 +4,16 @@
 
 ghost use Rattle.std.specs.Prelude.{◌≡◌, ◌+◌, ◌<◌, ◌≤◌, length};
 ghost use Rattle.ground.specs.Refusals.{status};
-ghost use Rattle.ip.specs.Memory.{unfit, queue_in};
-ghost use Rattle.ip.specs.Write.{to_come, address};
+ghost use Rattle.ip.specs.Memory.{queue_in};
+ghost use Rattle.ip.specs.Write.{to_come};
 ghost use Rattle.ip_queue.specs.Places.{length_at};
 ghost use Rattle.ip_queue.specs.Looking.{misplaced, Ready, told, front_of};
 
 use ground::refusal::Refusal;
+use ip_head::unsendable;
 
 // The four bytes before a packet's data.
 pub const HEAD: usize = 4;
-
-// First_Header_Address where no header begins in the word (table 5), and the last place where one fits.
-const NO_HEADER: u32 = 0xFFF;
-
-const LAST_HEADER: u32 = 1502;
-
-// A packet that is not sent: a type that is not 1 or 2, or a length that is not 1 to 4,095.
-fn unsendable(kind: u8, n: usize) -> bool
-    ensures { result ≡ unfit kind n }
-{
-    !(1..=2).contains(&kind) || !(1..=4095).contains(&n)
-}
 
 // The refusal of a queue: 19 for a packet that is not sent, 1 for an end inside a packet or its four bytes, whichever comes first.
 fn fault(queue: &[u8]) -> Result<(), Refusal>
@@ -67,25 +56,16 @@ fn out_of_place(queue: &[u8], sent: u32) -> bool
     sent == 1 || first_length(queue) + 1 < sent as usize
 }
 
-// How many bytes of the packet that is open are still to come.
-fn to_come(queue: &[u8], sent: u32) -> u32
+// How many bytes of the packet that is open are still to come. Queue and `sent` stand beside each other, as C lends them.
+fn to_come(queue: &[u8], sent: u32) -> usize
     requires { Ready queue.now sent }
-    ensures { (result ≡ to_come sent (queue_in 0 queue.now).packets) × (result < 4096) }
+    ensures { result ≡ to_come sent (queue_in 0 queue.now).packets }
 {
     if sent == 0 {
         return 0;
     }
     // its header of two bytes is counted
-    first_length(queue) as u32 + 2 - sent
-}
-
-// First_Header_Address: behind what is still to come of the open packet, also where padding begins there.
-fn first_header(queue: &[u8], sent: u32) -> u32
-    requires { Ready queue.now sent }
-    ensures { result ≡ address sent (queue_in 0 queue.now).packets }
-{
-    let r = to_come(queue, sent);
-    if r <= LAST_HEADER { r } else { NO_HEADER }
+    first_length(queue) + 2 - sent as usize
 }
 
 // Looks at the queue that a word is to be filled from, of whose first packet earlier words carry `sent` bytes, its header counted: why it
@@ -97,5 +77,7 @@ pub fn look(queue: &[u8], sent: u32) -> Result<u32, Refusal>
     if out_of_place(queue, sent) {
         return Err(Refusal::LengthWrong);
     }
-    Ok(first_header(queue, sent))
+    // behind what is still to come, also where padding begins there
+    let rest = to_come(queue, sent);
+    Ok(ip_head::address_after(rest) as u32)
 }

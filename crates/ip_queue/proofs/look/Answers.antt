@@ -1,6 +1,7 @@
 -- `ip_queue::look` meets its contract. Assumes nothing.
-use mathlib.Core.Path.{sym, ◌∙◌}
+use mathlib.Core.Path.{sym, ap, ◌∙◌}
 use Rattle.std.proofs.lemmas.Result.{err_from_is_err_and}
+use Rattle.ip.specs.Write.{announced}
 use Rattle.ip_queue.proofs.Seen.{queue_wrong, sent_wrong, none_wrong}
 use Rattle.ip_queue.proofs.look.Goals as goal
 
@@ -15,4 +16,5 @@ returns-then-out_of_place c =
 
 pub returns : goal.returns
 returns c =
-    none_wrong c.args.sent c.args.queue.now (sym c.in_ok-fault.ensures, sym c.out_of_place.ensures ∙ c.if-out_of_place.false) c.first_header.result c.first_header.ensures
+    none_wrong c.args.sent c.args.queue.now (sym c.in_ok-fault.ensures, sym c.out_of_place.ensures ∙ c.if-out_of_place.false) c.address_after.result
+    (c.address_after.ensures.0 ∙ ap announced c.to_come-rest.ensures)
