@@ -8,7 +8,7 @@ ghost use Rattle.infoword.specs.Suffix.{address_of};
 ghost use Rattle.fields.specs.Report.{no_header_at, read_refusal};
 
 use ground::refusal::Refusal;
-use ground::{PAYLOAD_BLOCK, PAYLOAD_WORD};
+use ground::{LAST_HEADER, NO_HEADER, PAYLOAD_BLOCK, PAYLOAD_WORD};
 use infoword::{STREAM_TYPE, StreamType};
 
 // What is reported of a word that is accepted: the fields of its header as they stand, which of its parity parts hold (bit k for part
@@ -17,6 +17,7 @@ use infoword::{STREAM_TYPE, StreamType};
 pub struct Header {
     pub rfu: u32,
     pub id: u8,
+    // STS_Stream_Type_ID stays a number: a word that is refused can have any, and C is handed it as it stands
     pub kind: u8,
     pub version: u8,
     pub parity: u8,
@@ -31,11 +32,6 @@ pub const STREAM_ID: usize = 12260;
 pub const ENCAP_VER: usize = 12271;
 
 const HEADER_CRC: usize = 12274;
-
-// The last byte address where a header fits, and the address that says that there is none (table 5).
-const LAST_HEADER: u32 = 1502;
-
-const NO_HEADER: u32 = 0xFFF;
 
 // Whether a word is accepted, or why not.
 pub fn refusal(word: &[u8]) -> Result<(), Refusal>
@@ -68,7 +64,7 @@ pub fn refusal(word: &[u8]) -> Result<(), Refusal>
     Ok(())
 }
 
-// First_Header_Address of type 3 (table 5), and 0 for any other.
+// First_Header_Address of type 3 (table 5), and 0 for any other number: a type in its place would ask more of callers.
 pub fn address_of(word: &[u8], kind: u32) -> u32
     ensures { (result ≡ choose (eqb kind 3) (address_of word.now) 0) × (result < 4096) }
 {
@@ -82,5 +78,6 @@ pub fn address_of(word: &[u8], kind: u32) -> u32
 fn no_header_at(address: u32) -> bool
     ensures { result ≡ no_header_at address }
 {
+    let address = address as usize;
     LAST_HEADER < address && address < NO_HEADER
 }

@@ -6,7 +6,8 @@ ghost use Rattle.infoword.specs.Suffix.{has_parity, covered_of, header_crc};
 ghost use Rattle.infoword.specs.Types.{stream_type};
 ghost use Rattle.infoword.specs.Word.{packet_bytes};
 
-// The stream types (tables 1 to 5). No other number names one: a word that has it is refused. Functions take the number, as a word or C has it.
+// The stream types (tables 1 to 5), in the order of their numbers. No other number names one: a word that has it is refused, and it stands for no
+// number itself.
 #[derive(Clone, Copy, Debug, PartialEq, Eq)]
 pub enum StreamType {
     Empty,
@@ -31,9 +32,6 @@ impl From<u32> for StreamType {
     }
 }
 
-// The number of IP streams, as it is written into a word.
-pub const IP_STREAM: u32 = 3;
-
 // The size of the payload packets of transparent words, and of transport streams and IP streams, in bytes (table 1).
 pub const TRANSPARENT_BYTES: usize = 1532;
 
@@ -55,7 +53,7 @@ pub const RFU: usize = 12256;
 
 const COVERED: usize = 18;
 
-// Whether a stream type has Parity_Parts (tables 4 and 5).
+// Whether a stream type has Parity_Parts (tables 4 and 5), by its number: the promise is for each, and a type would ask more of callers.
 pub fn has_parity(kind: u32) -> bool
     ensures { result ≡ has_parity kind }
 {
@@ -75,7 +73,7 @@ pub fn crc(word: &[u8]) -> u8
     crc::crc8(word, RFU, COVERED)
 }
 
-// How many bytes the payload packet of a stream type has (table 1).
+// How many bytes the payload packet of a stream type has (table 1), by its number, as in has_parity.
 pub fn bytes(kind: u32) -> usize
     ensures { (result ≡ packet_bytes kind) × (result ≤ 1532) }
 {

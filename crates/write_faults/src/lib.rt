@@ -16,7 +16,8 @@ pub const TS_PACKET: usize = 188;
 
 pub const TS_PACKETS: u32 = 8;
 
-// Whether a payload word is written, or why not, by the stream type, the packet count and the lengths of payload, null packet and word.
+// Whether a payload word is written, or why not, by the stream type, the packet count and the lengths of payload, null packet and word. The type
+// is any number, as C hands it in: an enum would ask more of callers.
 pub fn refusal(
     kind: u32,
     count: u32,

@@ -20,19 +20,21 @@ rfu_at w k e = ap (λ (x : ℕ). field_at w (12260 - lead_bits x) (rfu_bits x)) 
 pub returns-in-IpStream : goal.returns-in-IpStream
 unfolding rfu_bits lead_bits
 returns-in-IpStream c =
-    let three : c.args.kind ≡ 3 = omega (arith, number_of c.args.kind c.from.result IpStream c.from.ensures c.in-IpStream.is) in
-    c.field.ensures ∙ rfu_at c.args.word.now 3 (sym c.requires ∙ three)
+    let k = kind_of c.args.word.now in
+    let three : k ≡ 3 = omega (arith, number_of k c.args.stream IpStream c.requires c.in-IpStream.is) in
+    c.field.ensures ∙ rfu_at c.args.word.now 3 three
 
 pub returns-in-TransportStream : goal.returns-in-TransportStream
 unfolding rfu_bits lead_bits
 returns-in-TransportStream c =
-    let two : c.args.kind ≡ 2 = omega (arith, number_of c.args.kind c.from.result TransportStream c.from.ensures c.in-TransportStream.is) in
-    c.field-in-TransportStream.ensures ∙ rfu_at c.args.word.now 2 (sym c.requires ∙ two)
+    let k = kind_of c.args.word.now in
+    let two : k ≡ 2 = omega (arith, number_of k c.args.stream TransportStream c.requires c.in-TransportStream.is) in
+    c.field-in-TransportStream.ensures ∙ rfu_at c.args.word.now 2 two
 
 pub returns-in_default : goal.returns-in_default
 returns-in_default c =
     let w = c.args.word.now in
-    let not-2 : kind_of w ≡ 2 → ⊥ = λ e. c.in_default.not-TransportStream (c.from.ensures ∙ ap stream_type (c.requires ∙ e)) in
-    let not-3 : kind_of w ≡ 3 → ⊥ = λ e. c.in_default.not-IpStream (c.from.ensures ∙ ap stream_type (c.requires ∙ e)) in
+    let not-2 : kind_of w ≡ 2 → ⊥ = λ e. c.in_default.not-TransportStream (c.requires ∙ ap stream_type e) in
+    let not-3 : kind_of w ≡ 3 → ⊥ = λ e. c.in_default.not-IpStream (c.requires ∙ ap stream_type e) in
     let lead : lead_bits (kind_of w) ≡ 4 = lead_short (kind_of w) (has_not (kind_of w) not-2 not-3) in
     c.field-in_default.ensures ∙ ap (λ (r : ℕ). field_at w (12260 - r) r) (sym lead) ∙ sym (rfu_of_other w not-3)
