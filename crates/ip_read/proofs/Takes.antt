@@ -7,7 +7,7 @@ use mathlib.Core.List.{List, [], ◌++◌}
 use native.Mathlib.Omega.{arith}
 use lib.ListN.{length, get_or, take, drop, length-append, length-drop}
 use lib.Seq.{take_all, length-take-le}
-use Rattle.std.specs.Prelude.{Some, None}
+use Rattle.std.specs.Prelude.{Ok, Err}
 use Rattle.byte_runs.specs.Runs.{copied}
 use Rattle.byte_runs.proofs.Runs.{copied_is, copied_length}
 use Rattle.ip.specs.Packet.{Packet}
@@ -18,7 +18,7 @@ use Rattle.ip.proofs.Memory.{open_meant}
 use Rattle.ip_head.specs.declared.Head.{Head}
 use Rattle.ip_open.specs.declared.Opened.{Opened}
 use Rattle.ip_head.specs.Header.{head_in}
-use Rattle.ip_open.specs.Opening.{opened_in, where_begun}
+use Rattle.ip_open.specs.Opening.{opened_in, told}
 use Rattle.ip_look.specs.Steps.{packet_of, walk_from}
 use Rattle.ip_look.proofs.Walks.{none_reads, begun_runs, begun_ends}
 use Rattle.ip_open.proofs.Means.{means_none, means_begun, means_sound}
@@ -93,9 +93,9 @@ module _ {m l before : List ℕ} {address : ℕ} (x : Word m l before address) w
       copied_is q before 0 (omega (arith, enough, x.room_is)) ∙ ap (λ (i : ℕ). q ++ drop i before) z
 
   -- none is open
-  module _ (e : None ≡ where_begun (opened_in m)) where
+  module _ {o : Opened} (e : told (Err o) ≡ opened_in m) where
     none_is : g ≡ walk_from address l
-    none_is = ap (λ (y : Open). reading y address l) (means_none m e) ∙ none_reads address l
+    none_is = ap (λ (y : Open). reading y address l) (means_none m o e) ∙ none_reads address l
 
     pub none_accepted : (walk_from address l).refused ≡ false
     none_accepted = ap (λ (y : Got). y.refused) (sym none_is) ∙ x.accepted
@@ -114,7 +114,7 @@ module _ {m l before : List ℕ} {address : ℕ} (x : Word m l before address) w
         }
 
   -- a packet is open
-  module _ {o : Opened} (e : Some o ≡ where_begun (opened_in m)) where
+  module _ {o : Opened} (e : told (Ok o) ≡ opened_in m) where
     abbrev s : List ℕ
     s = take o.sofar (drop 8 m)
 

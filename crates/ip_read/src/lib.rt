@@ -9,7 +9,7 @@ ghost use Rattle.ground.specs.Refusals.{status};
 ghost use Rattle.ip_read.specs.Reading.{read_into};
 
 use ground::refusal::Refusal;
-use infoword::IP_STREAM;
+use infoword::StreamType;
 use ip_look::PAYLOAD;
 use ip_open::ROOM;
 
@@ -26,7 +26,7 @@ pub fn read(
     ip_look::refusal(word, memory, packets.len(), header.len())?;
     let h = header::header_of(word);
     // the header has the type as the number that C is handed
-    if h.kind as u32 != IP_STREAM {
+    if StreamType::from(u32::from(h.kind)) != StreamType::IpStream {
         header_bytes::put_header(header, h, 0);
         return Ok(());
     }

@@ -152,7 +152,7 @@ pub fn take_in(
         × ((reading (open_in memory.old) address payload.now).refused ≡ false) }
     ensures { TakenIn (reading (open_in memory.old) address payload.now) memory.new packets.old packets.new result }
 {
-    let Some(o) = ip_open::open_in(memory) else {
+    let Ok(o) = ip_open::open_in(memory) else {
         return follow(payload, address, memory, packets, 0);
     };
     let rest = o.length - o.sofar;

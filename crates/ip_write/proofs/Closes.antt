@@ -1,6 +1,6 @@
 -- Laws of what is put behind the payload: the address over the zeros behind Parity_Parts, and the header closed over it.
 -- Assumes nothing.
-use Prim.Native.Nat.{ℕ, ◌+◌, ◌-◌, ◌*◌, ◌/◌, ◌%◌, ◌≤◌, ◌<◌}
+use Prim.Native.Nat.{ℕ, ◌+◌, ◌*◌, ◌/◌, ◌%◌, ◌≤◌, ◌<◌}
 use mathlib.Core.Path.{◌≡◌, refl, sym, ap, ap₂, ◌∙◌}
 use mathlib.Core.List.{List, [], ◌∷◌, ◌++◌, append_assoc, append-nil}
 use native.Mathlib.Omega.{arith}
@@ -98,9 +98,9 @@ module _ (w : List ℕ) (id address : ℕ) (n : length w ≡ 1536) (i : id < 256
 
 -- two numbers in eight bytes
 pub eight : (l : List ℕ) (a b : ℕ) → length l ≡ 8
-    → put_mid 4 (length (to_be_bytes w32 a ++ drop 4 l) - 4) (to_be_bytes w32 a ++ drop 4 l) (to_be_bytes w32 b) ≡ pack 4 (bits 32 a) ++ pack 4 (bits 32 b)
+    → put_mid 4 4 (to_be_bytes w32 a ++ drop 4 l) (to_be_bytes w32 b) ≡ pack 4 (bits 32 a) ++ pack 4 (bits 32 b)
 eight l a b n =
     let x : List ℕ = to_be_bytes w32 a ++ drop 4 l in
-    let k : length (drop 4 x) ≤ length x - 4 = omega (arith, length-drop 4 x) in
+    let k : length (drop 4 x) ≤ 4 = omega (arith, length-drop 4 x, length-drop 4 l) in
     ap (λ (t : List ℕ). to_be_bytes w32 a ++ (to_be_bytes w32 b ++ t)) (drop_of_length-le (drop 4 x) k)
     ∙ ap₂ (λ (u v : List ℕ). u ++ v) (sym (pack_32 a)) (append-nil (to_be_bytes w32 b) ∙ sym (pack_32 b))

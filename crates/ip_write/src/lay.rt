@@ -9,10 +9,8 @@ ghost use Rattle.ip_queue.specs.Places.{length_at, packet_at};
 ghost use Rattle.ip_queue.specs.Looking.{Ready};
 ghost use Rattle.ip_write.specs.Steps.{header_number, begun_with, Waits, Laid, Same, NoneFits, Ended, Carries};
 
+use infoword::TRANSPORT_BYTES as PAYLOAD;
 use ip_queue::HEAD;
-
-// The payload of an IP stream's word, in bytes (clause 4.3.4).
-pub const PAYLOAD: usize = 1504;
 
 // A packet's header in the stream, in bytes (table 6).
 const HEADER: usize = 2;
@@ -131,7 +129,8 @@ fn put_rest(queue: &[u8], payload: &mut [u8], place: Place) -> Progress
     put_end(queue, payload, end)
 }
 
-// One payload filled from the queue, of whose first packet earlier words carry `sent` bytes, its header counted.
+// One payload filled from the queue, of whose first packet earlier words carry `sent` bytes, its header counted. The two stand beside each other
+// as `write` has them: what holds of both is asked for here alone.
 pub fn fill(queue: &[u8], sent: u32, payload: &mut [u8]) -> Progress
     requires { Ready queue.now sent × (length payload.old ≡ 1504) }
     ensures { Carries sent (queue_in 0 queue.now).packets payload.new result.done result.sent }

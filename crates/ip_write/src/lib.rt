@@ -12,7 +12,7 @@ ghost use Rattle.ip_write.specs.Writing.{written};
 
 use ground::PAYLOAD_WORD;
 use ground::refusal::Refusal;
-use infoword::IP_STREAM;
+use infoword::{StreamType, TRANSPORT_BYTES};
 use lay::Progress;
 
 // Two numbers of four bytes.
@@ -22,8 +22,8 @@ const PROGRESS: usize = 8;
 const ADDRESS: usize = 1531;
 
 // What stands behind the payload (table 5): Parity_Parts, RFU 0, First_Header_Address, and what ends every word.
-fn close(word: &mut [u8], id: u8, address: u32)
-    requires { (length word.old ≡ 1536) × (address < 4096) }
+fn close(word: &mut [u8; PAYLOAD_WORD], id: u8, address: u32)
+    requires { address < 4096 }
     ensures { word.new ≡ ip_word id address (take 1504 word.old) }
 {
     parts_put::put_parts(word);
@@ -31,13 +31,12 @@ fn close(word: &mut [u8], id: u8, address: u32)
     // the end of the address, STS_ID, STS_Stream_Type_ID, Encap_Ver 0
     ending::close(
         word,
-        address % 16 * 0x4000 + (id as u32 * 64 + IP_STREAM * 8),
+        address % 16 * 0x4000 + (u32::from(id) * 64 + StreamType::IpStream as u32 * 8),
     );
 }
 
 // What is done with.
-fn put_progress(progress: &mut [u8], p: Progress)
-    requires { length progress.old ≡ 8 }
+fn put_progress(progress: &mut [u8; PROGRESS], p: Progress)
     ensures { progress.new ≡ pack 4 (bits 32 p.done) ++ pack 4 (bits 32 p.sent) }
 {
     progress[..4].copy_from_slice(&p.done.to_be_bytes());
@@ -56,10 +55,13 @@ pub fn write(
     ensures { Is (written id sent queue.now word.old progress.old) (status result) (word.new, progress.new) × (id < 256) }
 {
     let address = ip_queue::look(queue, sent)?;
-    if word.len() != PAYLOAD_WORD || progress.len() != PROGRESS {
+    let Some(word) = word.as_mut_array::<PAYLOAD_WORD>() else {
         return Err(Refusal::LengthWrong);
-    }
-    let done = lay::fill(queue, sent, &mut word[..lay::PAYLOAD]);
+    };
+    let Some(progress) = progress.as_mut_array::<PROGRESS>() else {
+        return Err(Refusal::LengthWrong);
+    };
+    let done = lay::fill(queue, sent, &mut word[..TRANSPORT_BYTES]);
     close(word, id, address);
     put_progress(progress, done);
     Ok(())

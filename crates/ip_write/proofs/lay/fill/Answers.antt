@@ -23,24 +23,24 @@ put_part-requires c =
     let k = partly c.args.queue.now c.args.sent c.requires.0 (search rules) in
     omega (arith, k.ends, k.low, k.high, c.length_at.ensures.0, c.min.ensures)
 
-pub returns-then-left-gt-PAYLOAD : goal.returns-then-left-gt-PAYLOAD
-returns-then-left-gt-PAYLOAD c =
+pub returns-then-left-gt-TRANSPORT_BYTES : goal.returns-then-left-gt-TRANSPORT_BYTES
+returns-then-left-gt-TRANSPORT_BYTES c =
     first_runs c.args.queue.now c.args.sent (partly c.args.queue.now c.args.sent c.requires.0 (search rules)) c.args.payload.now c.put_part.new.payload _ _
-    c.requires.1 (omega (arith, c.length_at.ensures.0, c.if-left-gt-PAYLOAD.true)) (omega arith) (omega (arith, c.min.ensures, c.if-left-gt-PAYLOAD.true)) c.put_part.ensures
+    c.requires.1 (omega (arith, c.length_at.ensures.0, c.if-left-gt-TRANSPORT_BYTES.true)) (omega arith) (omega (arith, c.min.ensures, c.if-left-gt-TRANSPORT_BYTES.true)) c.put_part.ensures
 
 pub put_rest-requires-2 : goal.put_rest-requires-2
 put_rest-requires-2 c =
     let b = c.args.sent + 4 - 2 in
     let l = c.length_at.result + 2 - c.args.sent in
     first_laid c.args.queue.now c.args.sent (partly c.args.queue.now c.args.sent c.requires.0 (search rules)) c.args.payload.now c.put_part.new.payload b l (b + l) _
-    c.requires.1 (omega (arith, c.length_at.ensures.0)) (omega (arith, c.if-left-gt-PAYLOAD.false)) (omega arith) refl
-    (omega (arith, c.min.ensures, c.if-left-gt-PAYLOAD.false)) c.put_part.ensures
+    c.requires.1 (omega (arith, c.length_at.ensures.0)) (omega (arith, c.if-left-gt-TRANSPORT_BYTES.false)) (omega arith) refl
+    (omega (arith, c.min.ensures, c.if-left-gt-TRANSPORT_BYTES.false)) c.put_part.ensures
 
 pub returns : goal.returns
 returns c =
     let b = c.args.sent + 4 - 2 in
     let l = c.length_at.result + 2 - c.args.sent in
     first_carries c.args.queue.now c.args.sent (partly c.args.queue.now c.args.sent c.requires.0 (search rules)) c.args.payload.now c.put_part.new.payload b l (b + l) _
-    c.requires.1 (omega (arith, c.length_at.ensures.0)) (omega (arith, c.if-left-gt-PAYLOAD.false)) (omega arith) refl
-    (omega (arith, c.min.ensures, c.if-left-gt-PAYLOAD.false)) c.put_part.ensures
+    c.requires.1 (omega (arith, c.length_at.ensures.0)) (omega (arith, c.if-left-gt-TRANSPORT_BYTES.false)) (omega arith) refl
+    (omega (arith, c.min.ensures, c.if-left-gt-TRANSPORT_BYTES.false)) c.put_part.ensures
     c.put_rest-2.new.payload c.put_rest-2.result.done c.put_rest-2.result.sent c.put_rest-2.ensures
