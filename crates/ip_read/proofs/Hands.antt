@@ -16,7 +16,7 @@ use Rattle.ip_head.specs.declared.Head.{Head}
 use Rattle.ip_head.specs.Header.{head_in}
 use Rattle.ip_look.specs.Steps.{packet_of, walk_from}
 use Rattle.ip_look.proofs.Walks.{only_after, end_packets, end_after, padding_after, packet_ends, packet_runs, runs_nothing, nothing_runs}
-use Rattle.ip_read.specs.Steps.{four_of, begun_at, HandedOut}
+use Rattle.ip_read.specs.Steps.{four_of, begun_at, Ends, HandedOut}
 use Rattle.ip_read.proofs.Copies.{copied_behind, nothing_copied}
 
 -- the queue's bytes are the room that its packets take
@@ -160,6 +160,9 @@ module _ (l : List ℕ) (at : ℕ) where
     pub keep_padding : (m : List ℕ) → stuffing (get_or l at 0) (get_or l (at + 1) 0) ≡ true → m ≡ open_bytes none → m ≡ open_bytes (walk_from at l).after
     keep_padding m p e = e ∙ ap open_bytes (sym (padding_after l at h p))
 
-    pub keep_begun : (m : List ℕ) → (walk_from at l).refused ≡ false → (walk_from at l).packets ≡ [] → stuffing (get_or l at 0) (get_or l (at + 1) 0) ≡ false
+    pub keep_begun : (m : List ℕ) → Ends at l → stuffing (get_or l at 0) (get_or l (at + 1) 0) ≡ false
         → m ≡ open_bytes (begun_at at l) → m ≡ open_bytes (walk_from at l).after
-    keep_begun m ok q p e = e ∙ ap (λ (g : Got). open_bytes g.after) (sym (packet_runs l at h ok (nothing_runs l at h ok q p) p))
+    keep_begun m d p e =
+        let ok : (walk_from at l).refused ≡ false = ap (λ (g : Got). g.refused) d in
+        let q : (walk_from at l).packets ≡ [] = ap (λ (g : Got). g.packets) d in
+        e ∙ ap (λ (g : Got). open_bytes g.after) (sym (packet_runs l at h ok (nothing_runs l at h ok q p) p))

@@ -19,6 +19,10 @@ begun_at at l =
     let b = get_or l (at + 1) 0 in
     begun (kind_in a b) (error_in a b) (length_in a b) (drop (at + 2) l)
 
+-- the walk ends at a place: from there on nothing is refused, and no packet is whole
+abbrev pub Ends : ℕ → List ℕ → Type 0
+Ends at payload = walk_from at payload ≡ gives [] (walk_from at payload).after
+
 -- the whole packets from a header on are handed out behind `start` bytes; none is left where the walk ends
 pub record HandedOut (payload : List ℕ) (from start : ℕ) (before after : List ℕ) (r : Place) : Type 0 where
   pub memory : after ≡ copied (queue (walk_from from payload).packets) before start

@@ -1,17 +1,18 @@
 // The second pass, over a payload that is not refused: the packets that end in it are handed out, and what is then open is kept.
-ghost use Rattle.std.specs.Prelude.{◌≡◌, false, [], ◌++◌, ◌+◌, ◌≤◌, ◌<◌, length, take, drop};
+ghost use Rattle.std.specs.Prelude.{◌≡◌, false, ◌++◌, ◌+◌, ◌≤◌, ◌<◌, length, take, drop};
 ghost use Rattle.byte_runs.specs.Runs.{copied};
 ghost use Rattle.ip.specs.Read.{begun, reading};
 ghost use Rattle.ip.specs.Memory.{queued, queue, open_bytes, open_in};
 ghost use Rattle.ip_look.specs.Steps.{packet_of, walk_from};
-ghost use Rattle.ip_read.specs.Steps.{four_of, begun_at, HandedOut, Followed, TakenIn};
+ghost use Rattle.ip_read.specs.Steps.{four_of, begun_at, Ends, HandedOut, Followed, TakenIn};
 
 use crate::held::{FRONT, settle};
 use ip_head::LAST_HEADER;
 use ip_look::PAYLOAD;
 use ip_open::{Opened, ROOM};
 
-// Where the walk over the headers stands, and how much is handed out.
+// Where the walk over the headers stands, and how much is handed out. The packets are no field of it: lent as one, each step would have to
+// promise that the places stay.
 #[derive(Clone, Copy)]
 pub struct Place {
     pub at: usize,
@@ -80,7 +81,7 @@ fn begin(payload: &[u8; PAYLOAD], at: usize, memory: &mut [u8; ROOM])
 
 // What is open where the walk ended: a packet that runs on, or none.
 fn keep(payload: &[u8; PAYLOAD], at: usize, memory: &mut [u8; ROOM])
-    requires { ((walk_from at payload.now).refused ≡ false) × ((walk_from at payload.now).packets ≡ []) }
+    requires { Ends at payload.now }
     ensures { memory.new ≡ open_bytes (walk_from at payload.now).after }
 {
     if LAST_HEADER < at || ip_head::is_padding(payload[at], payload[at + 1]) {
@@ -90,7 +91,8 @@ fn keep(payload: &[u8; PAYLOAD], at: usize, memory: &mut [u8; ROOM])
     }
 }
 
-// From the header at a place on: whole packets behind those that are handed out already, and what is then open into the memory.
+// From the header at a place on: whole packets behind those that are handed out already, and what is then open into the memory. That nothing is
+// refused is asked for here and in hand_out alone, and is no ghost field of a struct: each call would have to build it.
 fn follow(
     payload: &[u8; PAYLOAD],
     from: usize,

@@ -1,13 +1,14 @@
 -- `ip_read::taking::follow` meets its contract. Assumes nothing.
-use mathlib.Core.Path.{ap, ◌∙◌}
-use Rattle.ip.specs.Read.{Got}
+use mathlib.Core.Path.{sym, ap, ◌∙◌}
+use mathlib.Core.List.{[]}
+use Rattle.ip.specs.Read.{Got, gives}
 use Rattle.ip.specs.Memory.{open_bytes}
 use Rattle.ip_read.proofs.taking.follow.Goals as goal
 
 pub keep-requires : goal.keep-requires
 keep-requires c =
     let e = c.hand_out-end.ensures.ended in
-    (ap (λ (g : Got). g.refused) e, ap (λ (g : Got). g.packets) e)
+    e ∙ ap (gives []) (sym (ap (λ (g : Got). g.after) e))
 
 pub returns : goal.returns
 returns c =

@@ -23,6 +23,6 @@ returns-else-is_padding c =
     elim c.if-at-gt-LAST_HEADER.branch [
       | then-at-gt-LAST_HEADER w ↦ never (w.value-is ∙ lt-ltb 1502 c.args.at w.if-at-gt-LAST_HEADER.true) c.if-is_padding.false
       | else-at-gt-LAST_HEADER w ↦
-          keep_begun c.args.payload.now c.args.at (omega (arith, w.if-at-gt-LAST_HEADER.false, c.told-payload)) _ c.requires.0 c.requires.1
+          keep_begun c.args.payload.now c.args.at (omega (arith, w.if-at-gt-LAST_HEADER.false, c.told-payload)) _ c.requires
           (sym w.is_padding.ensures ∙ sym w.value-is ∙ c.if-is_padding.false) c.begin.ensures
     ]
