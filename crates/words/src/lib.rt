@@ -33,14 +33,13 @@ pub fn line(out: &mut [u8], at: usize, text: &[u8], numbers: &[u32]) -> usize
     ensures { Is (put out.old at (filled text.now numbers.now)) result out.new }
 {
     let mut to = at;
-    let mut n = 0;
+    let mut left = numbers.iter();
     for &c in text {
-        if c == b'#' {
-            to = number(out, to, numbers.get(n).copied().unwrap_or(0));
-            n += 1;
+        to = if c == b'#' {
+            number(out, to, left.next().copied().unwrap_or(0))
         } else {
-            to = byte(out, to, c);
-        }
+            byte(out, to, c)
+        };
     }
     to
 }
