@@ -45,24 +45,12 @@ pub fn header_of(h: u8, p: u8, s: u8, d: u8) -> [u8; 12]
     ensures { result ≡ header h p s d }
 {
     let o = Offsets::of(h, p, s, d);
-    let pipes = o.pipes.to_be_bytes();
-    let streams = o.streams.to_be_bytes();
-    let sections = o.sections.to_be_bytes();
-    let end = o.end.to_be_bytes();
-    [
-        p,
-        s,
-        d,
-        0,
-        pipes[0],
-        pipes[1],
-        streams[0],
-        streams[1],
-        sections[0],
-        sections[1],
-        end[0],
-        end[1],
-    ]
+    let mut header = [p, s, d, 0, 0, 0, 0, 0, 0, 0, 0, 0];
+    header[4..6].copy_from_slice(&o.pipes.to_be_bytes());
+    header[6..8].copy_from_slice(&o.streams.to_be_bytes());
+    header[8..10].copy_from_slice(&o.sections.to_be_bytes());
+    header[10..].copy_from_slice(&o.end.to_be_bytes());
+    header
 }
 
 // The number in two bytes of a sheet.
