@@ -1,18 +1,20 @@
 -- The word of a sheet's lists part by part: each part is bits of the sheet, and the fields that go into the sink are those bits.
 -- Assumes nothing.
-use Prim.Native.Nat.{ℕ, zero, suc, ◌+◌, ◌-◌, ◌*◌, ◌%◌, ◌≤◌, ◌<◌}
-use mathlib.Core.Path.{◌≡◌, refl, sym, ap, ◌∙◌}
+use Prim.Native.Nat.{ℕ, zero, suc, ◌+◌, ◌-◌, ◌*◌, ◌/◌, ◌%◌, ◌≤◌, ◌<◌}
+use mathlib.Core.Path.{◌≡◌, refl, sym, ap, ap₂, ◌∙◌}
 use mathlib.Core.List.{List, [], ◌∷◌, ◌++◌, append_assoc}
-use native.Mathlib.Nat.{mul_comm, add_assoc}
+use native.Mathlib.Nat.{mul_comm}
 use native.Mathlib.Decide.{dec_lt}
 use native.Mathlib.Omega.{arith}
 use lib.ListN.{length, get_or, take, drop, replicate, length-append, length-drop, length-replicate, get_or-replicate, replicate-append-replicate, get_or-append, get_or-eq_default}
-use lib.Seq.{take_at, drop_at, drop-drop, take-append-le, drop-append-le, get_or-take, get_or-drop, get_or-append-add, length-take-le}
+use lib.Seq.{paste, take_at, drop_at, drop-drop, take-append-le, drop-append-le, get_or-append-add, length-take-le}
+use Rattle.ground.proofs.Copy.{paste_behind}
+use Rattle.byte_runs.specs.Runs.{copied}
+use Rattle.byte_runs.proofs.Runs.{copied_all}
 use Rattle.bits.specs.Lists.{num, unpack, pack, Below}
 use Rattle.bits.specs.Places.{bit_at, number, field_at}
 use Rattle.bits.proofs.Below.{below_append, below_drop, below_replicate, below_get}
-use Rattle.bits.proofs.Lists.{unpack_below, unpack_length}
-use Rattle.bits.proofs.Places.{number_move, field_is}
+use Rattle.bits.proofs.Lists.{unpack_below, unpack_length, unpack_append, unpack_take, unpack_drop}
 use Rattle.bits.proofs.Joined.{bit_unpack, number_list, field_num}
 use Rattle.wide.specs.Held.{place_of, Held}
 use Rattle.wide.specs.declared.Wide.{Wide}
@@ -26,9 +28,9 @@ use Rattle.description.specs.Form1.{bare, sheet_sections, sheet_lists}
 use Rattle.description.proofs.Rows.{join_length, joins_length, join_cut, joins_cuts, joins_at, cuts_at, cuts_length}
 use Rattle.description.proofs.Form1.{bare_length}
 use Rattle.description.proofs.Word.{body_below}
-use Rattle.views.specs.View.{sheet_view}
 use Rattle.views.specs.declared.View.{View}
-use Rattle.to_word.specs.Laid.{Puts, Padded, Seals}
+use Rattle.views.proofs.Views.{WordPlaces, SheetPlaces}
+use Rattle.to_word.specs.Laid.{Waits, Puts, Padded, Seals}
 use Rattle.to_word.proofs.Sinks.{bits_of}
 
 -- ---- sections without the four bits above each
@@ -93,22 +95,7 @@ module _ (b : List ℕ) (p s d : ℕ) (below : Below 2 b) (long : length b ≡ 8
   unfolding body sheet_lists sheet_sections
   body_parts = rw (multiplex_part, pipes_part, tail_part, streams_part) (simp append_assoc)
 
--- ---- a field of a part that stands in a list as it stands in the sheet
-module _ (sh L x rest : List ℕ) (at place m : ℕ) (there : drop place L ≡ x ++ rest) (is : x ≡ take m (drop at (unpack sh))) (within : at + m ≤ 8 * length sh) where
-  long : length x ≡ m
-  long = ap length is ∙ length-take-le m (drop at (unpack sh)) (rw (length-drop, unpack_length) (omega arith))
-
-  bit_there : (q : ℕ) → q < m → bit_at sh (at + q) ≡ bits_of L (place + q)
-  bit_there q h =
-      bit_unpack sh (at + q) ∙ sym (get_or-drop at (unpack sh) q 0) ∙ sym (get_or-take m (drop at (unpack sh)) q 0 h) ∙ ap (λ (y : List ℕ). get_or y q 0) (sym is)
-      ∙ sym (get_or-append x rest 0 q (omega (arith, long))) ∙ ap (λ (y : List ℕ). get_or y q 0) (sym there) ∙ get_or-drop place L q 0
-
-  pub field_there : (k n : ℕ) → n ≤ 32 → k + n ≤ m → field_at sh (at + k) n ≡ number (bits_of L) (place + k) n
-  field_there k n h r =
-      field_is sh (at + k) n h
-      ∙ number_move (bit_at sh) (bits_of L) (at + k) (place + k) n
-      (λ j l. ap (bit_at sh) (add_assoc at k j) ∙ bit_there (k + j) (omega arith) ∙ ap (bits_of L) (sym (add_assoc place k j)))
-
+-- ---- a section that stands in a list
 section_there : (sh L rest : List ℕ) (at place d : ℕ) → drop place L ≡ bare_bits d (drop at (unpack sh)) ++ rest → at + 16 * d ≤ 8 * length sh → place + 12 * d ≤ length L
     → (k : ℕ) → k < d → field_at sh (at + 4 + 16 * k) 12 ≡ number (bits_of L) (place + 12 * k) 12
 section_there sh L rest at place d there within room k h =
@@ -139,6 +126,44 @@ zeros_behind x n m j h =
     let i : length x + (j - length x) ≡ j = omega arith in
     let e : (x ++ replicate n 0) ++ replicate m 0 ≡ x ++ z = append_assoc x (replicate n 0) (replicate m 0) ∙ ap (λ (y : List ℕ). x ++ y) (replicate-append-replicate n m 0) in
     ap (λ (y : List ℕ). get_or y j 0) e ∙ ap (λ (k : ℕ). get_or (x ++ z) k 0) (sym i) ∙ get_or-append-add x z (j - length x) 0 ∙ no_bit (n + m) (j - length x)
+
+-- ---- whole bytes
+
+-- the n bytes from byte i on, as bits
+run_bits : (sh : List ℕ) (i n : ℕ) → i + n ≤ length sh → unpack (take n (drop i sh)) ≡ take (8 * n) (drop (8 * i) (unpack sh))
+run_bits sh i n h = sym (unpack_take n (drop i sh) (rw length-drop (omega arith))) ∙ ap (take (8 * n)) (sym (unpack_drop i sh (omega arith)))
+
+-- a copy by the bytes that its places stand for
+list_is : (sh out : List ℕ) (from until to : ℕ) {o : List ℕ} (i n k : ℕ) → from / 8 ≡ i → until / 8 ≡ i + n → to / 8 ≡ k
+    → o ≡ copied (take (until / 8 - from / 8) (drop (from / 8) sh)) out (to / 8) → o ≡ copied (take n (drop i sh)) out k
+list_is sh out from until to i n k e f g h =
+    let d : until / 8 - from / 8 ≡ n = omega arith in
+    h ∙ (λ j. copied (take (d j) (drop (e j) sh)) out (g j))
+
+-- out with the bytes x copied to its front
+record Copied (out x o : List ℕ) : Type 0 where
+  holds : o ≡ x ++ drop (length x) out
+  within : length x ≤ length out
+
+copied_none : (out : List ℕ) → Copied out [] out
+copied_none out = record { holds = refl; within = omega arith }
+
+copied_more : {out x o o' : List ℕ} {a : ℕ} (y : List ℕ) → Copied out x o → a ≡ length x → length x + length y ≤ length out → o' ≡ copied y o a → Copied out (x ++ y) o'
+copied_more {out} {x} {o} y c e h f =
+    let n : ℕ = length x in
+    let l : length o ≡ length out = ap length c.holds ∙ length-append x (drop n out) ∙ omega (arith, length-drop n out, c.within) in
+    record {
+      holds = f ∙ ap (copied y o) e ∙ sym (copied_all y o n (omega arith) (length y) refl) ∙ ap (λ (z : List ℕ). paste z n y (length y)) c.holds
+          ∙ paste_behind out x y n (length y) refl refl ∙ ap (λ (k : ℕ). (x ++ y) ++ drop k out) (sym (length-append x y));
+      within = omega (arith, length-append x y);
+    }
+
+-- its bits are those of any list that begins with the bits of x
+bit_copied : {out x o : List ℕ} (b rest : List ℕ) → Copied out x o → unpack x ≡ b → (j : ℕ) → j < length b → bit_at o j ≡ bits_of (b ++ rest) j
+bit_copied {out} {x} {o} b rest c e j h =
+    let z : List ℕ = unpack (drop (length x) out) in
+    bit_unpack o j ∙ ap (λ (y : List ℕ). get_or y j 0) (ap unpack c.holds ∙ unpack_append x (drop (length x) out) ∙ ap (λ (y : List ℕ). y ++ z) e)
+    ∙ get_or-append b z 0 j h ∙ sym (get_or-append b rest 0 j h)
 
 -- ---- the sheet's word
 module _ (sh : List ℕ) (p s d : ℕ) (long : length sh ≡ sheet_end form1 p s d) (fits : size p s d ≤ 750) where
@@ -197,21 +222,20 @@ module _ (sh : List ℕ) (p s d : ℕ) (long : length sh ≡ sheet_end form1 p s
   unfolding ds
   ds_long = bare_bits_lem d (drop (8 * sections_from form1 p s) (unpack sh))
 
-  -- from a place on, past a part
-  past : (x y : List ℕ) (i n j : ℕ) → drop i all ≡ x ++ y → length x ≡ n → i + n ≡ j → drop j all ≡ y
-  past x y i n j e f g = ap (λ (k : ℕ). drop k all) (sym g) ∙ sym (drop-drop n i all) ∙ ap (drop n) e ∙ drop_at x y n f
+  -- the parts that are whole bytes
+  bytes : List ℕ
+  bytes = ((m ++ ps) ++ t) ++ ss
 
-  a2 : drop 56 all ≡ ps ++ (t ++ (ss ++ (ds ++ zs)))
-  a2 = past m _ 0 56 56 all_parts m_long refl
+  bytes_long : length bytes ≡ 72 + 48 * p + 16 * s
+  unfolding bytes
+  bytes_long = simp length-append (omega (arith, m_long, ps_long, t_long, ss_long))
 
-  a3 : drop (56 + 48 * p) all ≡ t ++ (ss ++ (ds ++ zs))
-  a3 = past ps _ 56 (48 * p) (56 + 48 * p) a2 ps_long refl
+  all_bytes : all ≡ bytes ++ (ds ++ zs)
+  unfolding bytes
+  all_bytes = all_parts ∙ simp append_assoc
 
-  a4 : drop (72 + 48 * p) all ≡ ss ++ (ds ++ zs)
-  a4 = past t _ (56 + 48 * p) 16 (72 + 48 * p) a3 t_long (omega arith)
-
-  a5 : drop (72 + 48 * p + 16 * s) all ≡ ds ++ zs
-  a5 = past ss _ (72 + 48 * p) (16 * s) (72 + 48 * p + 16 * s) a4 ss_long refl
+  sections_behind : drop (72 + 48 * p + 16 * s) all ≡ ds ++ zs
+  sections_behind = ap (drop (72 + 48 * p + 16 * s)) all_bytes ∙ drop_at bytes (ds ++ zs) (72 + 48 * p + 16 * s) bytes_long
 
   body_long : length (body lists) ≡ size p s d
   unfolding m ps t ss ds
@@ -238,76 +262,93 @@ module _ (sh : List ℕ) (p s d : ℕ) (long : length sh ≡ sheet_end form1 p s
   unfolding padded
   zero_behind j h = zeros_behind (body lists) (750 - length (body lists)) 18 j (omega (arith, body_long))
 
-  -- ---- the fields of each part
-  bytes : (x rest : List ℕ) (at place n : ℕ) → drop place all ≡ x ++ rest → x ≡ take (8 * n) (drop at (unpack sh)) → at + 8 * n ≤ 8 * length sh
-      → (i : ℕ) → i < n → field_at sh (at + 8 * i) 8 ≡ number (bits_of all) (place + 8 * i) 8
-  bytes x rest at place n e f h i l = field_there sh all x rest at place (8 * n) e f h (8 * i) 8 (omega arith) (omega arith)
-
-  multiplex_fields : (i : ℕ) → i < 7 → field_at sh (8 * form1 + 8 * i) 8 ≡ number (bits_of all) (0 + 8 * i) 8
-  unfolding m
-  multiplex_fields i l = bytes m _ (8 * form1) 0 7 all_parts refl (omega (arith, long)) i l
-
-  pipes_fields : (i : ℕ) → i < 6 * p → field_at sh (8 * pipes_from form1 + 8 * i) 8 ≡ number (bits_of all) (56 + 8 * i) 8
-  unfolding ps
-  pipes_fields i l =
-      let e : 48 * p ≡ 8 * (6 * p) = omega arith in
-      bytes ps _ (8 * pipes_from form1) 56 (6 * p) a2 (ap (λ (n : ℕ). take n (drop (8 * pipes_from form1) (unpack sh))) e) (omega (arith, long)) i l
-
-  tail_fields : (i : ℕ) → i < 2 → field_at sh (8 * tail_from form1 + 8 * i) 8 ≡ number (bits_of all) (56 + 48 * p + 8 * i) 8
-  unfolding t
-  tail_fields i l = bytes t _ (8 * tail_from form1) (56 + 48 * p) 2 a3 refl (omega (arith, long)) i l
-
-  streams_fields : (i : ℕ) → i < 2 * s → field_at sh (8 * streams_from form1 p + 8 * i) 8 ≡ number (bits_of all) (72 + 48 * p + 8 * i) 8
-  unfolding ss
-  streams_fields i l =
-      let e : 16 * s ≡ 8 * (2 * s) = omega arith in
-      bytes ss _ (8 * streams_from form1 p) (72 + 48 * p) (2 * s) a4 (ap (λ (n : ℕ). take n (drop (8 * streams_from form1 p) (unpack sh))) e) (omega (arith, long)) i l
-
-  sections_fields : (i : ℕ) → i < d → field_at sh (8 * sections_from form1 p s + 4 + 16 * i) 12 ≡ number (bits_of all) (72 + 48 * p + 16 * s + 12 * i) 12
-  unfolding ds
-  sections_fields i l = section_there sh all zs (8 * sections_from form1 p s) (72 + 48 * p + 16 * s) d a5 (omega (arith, long)) (omega (arith, all_long)) i l
-
   -- ---- the calls in their order
-  abbrev none : Wide
-  none = record { acc = 0; used = 0; at = 0 }
+  x₁ : List ℕ
+  x₁ = take 7 (drop form1 sh)
 
-  pub record Laid (out : List ℕ) (o : List ℕ) (r : Wide) : Type 0 where
+  x₂ : List ℕ
+  x₂ = take (6 * p) (drop (pipes_from form1) sh)
+
+  x₃ : List ℕ
+  x₃ = take 2 (drop (tail_from form1) sh)
+
+  x₄ : List ℕ
+  x₄ = take (2 * s) (drop (streams_from form1 p) sh)
+
+  run_long : (i n : ℕ) → i + n ≤ length sh → length (take n (drop i sh)) ≡ n
+  run_long i n h = length-take-le n (drop i sh) (rw length-drop (omega arith))
+
+  abbrev copies : List ℕ
+  copies = ((x₁ ++ x₂) ++ x₃) ++ x₄
+
+  all_copied : {out o₁ o₂ o₃ o₄ : List ℕ} → length out ≡ 96 → o₁ ≡ copied x₁ out 0 → o₂ ≡ copied x₂ o₁ 7 → o₃ ≡ copied x₃ o₂ (7 + 6 * p) → o₄ ≡ copied x₄ o₃ (9 + 6 * p)
+      → Copied out copies o₄
+  unfolding x₁ x₂ x₃ x₄
+  all_copied {out} room e₁ e₂ e₃ e₄ =
+      let l₁ : length x₁ ≡ 7 = run_long form1 7 (omega (arith, long)) in
+      let l₂ : length x₂ ≡ 6 * p = run_long (pipes_from form1) (6 * p) (omega (arith, long)) in
+      let l₃ : length x₃ ≡ 2 = run_long (tail_from form1) 2 (omega (arith, long)) in
+      let l₄ : length x₄ ≡ 2 * s = run_long (streams_from form1 p) (2 * s) (omega (arith, long)) in
+      let n₂ : length (x₁ ++ x₂) ≡ 7 + 6 * p = length-append x₁ x₂ ∙ omega arith in
+      let n₃ : length ((x₁ ++ x₂) ++ x₃) ≡ 9 + 6 * p = length-append (x₁ ++ x₂) x₃ ∙ omega arith in
+      let c₁ : Copied out x₁ _ = copied_more x₁ (copied_none out) refl (omega arith) e₁ in
+      let c₂ = copied_more x₂ c₁ (sym l₁) (omega arith) e₂ in
+      let c₃ = copied_more x₃ c₂ (sym n₂) (omega arith) e₃ in
+      copied_more x₄ c₃ (sym n₃) (omega arith) e₄
+
+  copies_bits : unpack copies ≡ bytes
+  unfolding bytes m ps t ss x₁ x₂ x₃ x₄
+  copies_bits =
+      let u : List ℕ = unpack sh in
+      let f₂ : 8 * (6 * p) ≡ 48 * p = omega arith in
+      let f₄ : 8 * (2 * s) ≡ 16 * s = omega arith in
+      let r₁ : unpack x₁ ≡ m = run_bits sh form1 7 (omega (arith, long)) in
+      let r₂ : unpack x₂ ≡ ps = run_bits sh (pipes_from form1) (6 * p) (omega (arith, long)) ∙ ap (λ (n : ℕ). take n (drop (8 * pipes_from form1) u)) f₂ in
+      let r₃ : unpack x₃ ≡ t = run_bits sh (tail_from form1) 2 (omega (arith, long)) in
+      let r₄ : unpack x₄ ≡ ss = run_bits sh (streams_from form1 p) (2 * s) (omega (arith, long)) ∙ ap (λ (n : ℕ). take n (drop (8 * streams_from form1 p) u)) f₄ in
+      unpack_append ((x₁ ++ x₂) ++ x₃) x₄
+      ∙ ap₂ ◌++◌ (unpack_append (x₁ ++ x₂) x₃ ∙ ap₂ ◌++◌ (unpack_append x₁ x₂ ∙ ap₂ ◌++◌ r₁ r₂) r₃) r₄
+
+  sections_fields : (k : ℕ) → k < d → field_at sh (8 * sections_from form1 p s + 4 + 16 * k) 12 ≡ number (bits_of all) (72 + 48 * p + 16 * s + 12 * k) 12
+  unfolding ds
+  sections_fields k l = section_there sh all zs (8 * sections_from form1 p s) (72 + 48 * p + 16 * s) d sections_behind (omega (arith, long)) (omega (arith, all_long)) k l
+
+  pub record Laid (o : List ℕ) (r : Wide) : Type 0 where
     pub held : Held (bits_of (padded (body (sheet_lists form1 p s d (unpack sh))) ++ replicate 18 0)) o r
     pub place : place_of r ≡ size p s d
     pub step : r.at % 4 ≡ 0
     pub room : r.used < 32
 
-  pub laid : (v : View) → v ≡ sheet_view form1 p s → {out o₁ o₂ o₃ o₄ o₅ : List ℕ} {r₁ r₂ r₃ r₄ r₅ : Wide}
-      → Puts sh v.multiplex 8 8 7 out none o₁ r₁
-      → Puts sh v.pipes 8 8 (6 * p) o₁ r₁ o₂ r₂
-      → Puts sh v.tail 8 8 2 o₂ r₂ o₃ r₃
-      → Puts sh v.streams 8 8 (2 * s) o₃ r₃ o₄ r₄
-      → Puts sh v.sections v.apart 12 d o₄ r₄ o₅ r₅
-      → Laid out o₅ r₅
-  unfolding sheet_view number
-  laid v e {out} {r₁ = r₁} {r₂} {r₃} {r₄} q₁ q₂ q₃ q₄ q₅ =
-      let bit : (j : ℕ) → bits_of all j < 2 = λ j. below_get 2 all j (omega arith) all_bits in
-      let h₀ : Held (bits_of all) out none = record { bytes = λ k l. absurd (omega arith); part = refl } in
-      let at : (f : View → ℕ) (k w n g i : ℕ) → field_at sh (f (sheet_view form1 p s) + k * i) w ≡ number (bits_of all) (g + n * i) w → (j : ℕ) → j ≡ g → field_at sh (f v + k * i) w ≡ number (bits_of all) (j + n * i) w =
-      λ f k w n g i x j y. ap (λ (u : View). field_at sh (f u + k * i) w) e ∙ x ∙ ap (λ (u : ℕ). number (bits_of all) (u + n * i) w) (sym y) in
-      let p₁ : place_of r₁ ≡ 56 = q₁.moved in
-      let p₂ : place_of r₂ ≡ 56 + 48 * p = omega (arith, q₂.moved, p₁) in
-      let p₃ : place_of r₃ ≡ 72 + 48 * p = omega (arith, q₃.moved, p₂) in
-      let p₄ : place_of r₄ ≡ 72 + 48 * p + 16 * s = omega (arith, q₄.moved, p₃) in
-      let h₁ = q₁.keeps (bits_of all) bit h₀ (λ i l. at (λ (u : View). u.multiplex) 8 8 8 0 i (multiplex_fields i l) 0 refl) in
-      let h₂ = q₂.keeps (bits_of all) bit h₁ (λ i l. at (λ (u : View). u.pipes) 8 8 8 56 i (pipes_fields i l) (place_of r₁) p₁) in
-      let h₃ = q₃.keeps (bits_of all) bit h₂ (λ i l. at (λ (u : View). u.tail) 8 8 8 (56 + 48 * p) i (tail_fields i l) (place_of r₂) p₂) in
-      let h₄ = q₄.keeps (bits_of all) bit h₃ (λ i l. at (λ (u : View). u.streams) 8 8 8 (72 + 48 * p) i (streams_fields i l) (place_of r₃) p₃) in
-      let h₅ = q₅.keeps (bits_of all) bit h₄ (λ i l. ap (λ (u : View). field_at sh (v.sections + u.apart * i) 12) e ∙ at (λ (u : View). u.sections) 16 12 12 (72 + 48 * p + 16 * s) i (sections_fields i l) (place_of r₄) p₄) in
+  pub laid : (v u : View) → SheetPlaces form1 p s v → WordPlaces p s u → (out : List ℕ) {o₁ o₂ o₃ o₄ o₅ : List ℕ} {r₄ r₅ : Wide} → length out ≡ 96
+      → o₁ ≡ copied (take (v.tail / 8 - v.multiplex / 8) (drop (v.multiplex / 8) sh)) out (u.multiplex / 8)
+      → o₂ ≡ copied (take (v.streams / 8 - v.pipes / 8) (drop (v.pipes / 8) sh)) o₁ (u.pipes / 8)
+      → o₃ ≡ copied (take (v.pipes / 8 - v.tail / 8) (drop (v.tail / 8) sh)) o₂ (u.tail / 8)
+      → o₄ ≡ copied (take (v.sections / 8 - v.streams / 8) (drop (v.streams / 8) sh)) o₃ (u.streams / 8)
+      → Waits o₄ u.sections r₄
+      → Puts sh v.sections v.apart d o₄ r₄ o₅ r₅
+      → Laid o₅ r₅
+  unfolding x₁ x₂ x₃ x₄
+  laid v u a b out {o₁} {o₂} {o₃} {o₄} {r₄ = r₄} room e₁ e₂ e₃ e₄ w q =
+      let k₁ = list_is sh out v.multiplex v.tail u.multiplex form1 7 0 (omega (arith, a.multiplex)) (omega (arith, a.tail)) (omega (arith, b.multiplex)) e₁ in
+      let k₂ = list_is sh o₁ v.pipes v.streams u.pipes (pipes_from form1) (6 * p) 7 (omega (arith, a.pipes)) (omega (arith, a.streams)) (omega (arith, b.pipes)) e₂ in
+      let k₃ = list_is sh o₂ v.tail v.pipes u.tail (tail_from form1) 2 (7 + 6 * p) (omega (arith, a.tail)) (omega (arith, a.pipes)) (omega (arith, b.tail)) e₃ in
+      let k₄ = list_is sh o₃ v.streams v.sections u.streams (streams_from form1 p) (2 * s) (9 + 6 * p) (omega (arith, a.streams)) (omega (arith, a.sections)) (omega (arith, b.streams)) e₄ in
+      let f : ℕ → ℕ = bits_of all in
+      let bit : (j : ℕ) → f j < 2 = λ j. below_get 2 all j (omega arith) all_bits in
+      let c = all_copied room k₁ k₂ k₃ k₄ in
+      let p₄ : place_of r₄ ≡ 72 + 48 * p + 16 * s = w.stands ∙ b.sections in
+      let same : (j : ℕ) → j < u.sections → bit_at o₄ j ≡ f j =
+      λ j l. bit_copied bytes (ds ++ zs) c copies_bits j (omega (arith, bytes_long, b.sections)) ∙ ap (λ (y : List ℕ). get_or y j 0) (sym all_bytes) in
+      let h₄ = w.holds f bit same in
       record {
-        held = h₅;
-        place = omega (arith, q₅.moved, p₄);
-        step = q₅.step ∙ q₄.step ∙ q₃.step ∙ q₂.step ∙ q₁.step;
-        room = q₅.room;
+        held = q.keeps f bit h₄ (λ k l. ap₂ (λ (x y : ℕ). field_at sh (x + y * k) 12) a.sections a.apart ∙ sections_fields k l ∙ ap (λ (x : ℕ). number f (x + 12 * k) 12) (sym p₄));
+        place = omega (arith, q.moved, p₄);
+        step = q.step ∙ omega (arith, w.step);
+        room = q.room;
       }
 
 -- padded, and then sealed, it is the word of the lists
-module _ (sh : List ℕ) (p s d : ℕ) (long : length sh ≡ sheet_end form1 p s d) (fits : size p s d ≤ 750) {out o x : List ℕ} {r : Wide} (l : Laid sh p s d long fits out o r) (f : Padded o r x) where
+module _ (sh : List ℕ) (p s d : ℕ) (long : length sh ≡ sheet_end form1 p s d) (fits : size p s d ≤ 750) {o x : List ℕ} {r : Wide} (l : Laid sh p s d long fits o r) (f : Padded o r x) where
   word_padded : x ≡ pack 96 (padded (body (sheet_lists form1 p s d (unpack sh))) ++ replicate 18 0)
   word_padded = f _ (all_bits sh p s d long fits) (all_long sh p s d long fits) l.held (λ j h. zero_behind sh p s d long fits j (omega (arith, l.place)))
 

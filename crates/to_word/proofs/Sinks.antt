@@ -1,10 +1,9 @@
 -- The steps of laying out a word through the sink: a field more, zeros to the end, and the CRC.
 -- Assumes nothing.
-use Prim.Native.Nat.{ℕ, zero, suc, ◌+◌, ◌-◌, ◌*◌, ◌%◌, ◌^◌, ◌≤◌, ◌<◌}
+use Prim.Native.Nat.{ℕ, zero, suc, ◌+◌, ◌-◌, ◌*◌, ◌/◌, ◌%◌, ◌^◌, ◌≤◌, ◌<◌}
 use mathlib.Core.Path.{◌≡◌, refl, sym, ap, ◌∙◌}
 use mathlib.Core.List.{List, ◌++◌}
-use native.Mathlib.Nat.{mul-zero, mul-suc, mul-le-mul_left, mod-eq_of_lt, zero-add}
-use native.Mathlib.Numerals.{add-one}
+use native.Mathlib.Nat.{mod-eq_of_lt, zero-add}
 use native.Mathlib.Decide.{dec_lt}
 use native.Mathlib.Omega.{arith}
 use lib.ListN.{length, get_or, take, drop, replicate, length-append, length-drop, length-replicate, get_or-replicate, get_or-append}
@@ -16,7 +15,7 @@ use Rattle.bits.specs.Places.{bit_at, number, packed, field_at}
 use Rattle.bits.proofs.Below.{below_append, below_replicate, below_get}
 use Rattle.bits.proofs.Lists.{bits_length, bits_below, num_bits, pack_length, unpack_pack}
 use Rattle.bits.proofs.Places.{number_cong, number_move, number_append, number_lt, field_is}
-use Rattle.bits.proofs.Joined.{bit_unpack, run_unpack, number_list, pack_at, packed_pack}
+use Rattle.bits.proofs.Joined.{bit_unpack, run_unpack, run_byte, num_tab, number_list, packed_pack}
 use borrow.Rule.Slice.PartMut.{put_mid}
 use lib.Pow.{pow_pos}
 use Rattle.ground.specs.Outcome.{Is}
@@ -27,7 +26,7 @@ use Rattle.wide.specs.declared.Wide.{Wide}
 use Rattle.crc.specs.Crc.{crc_of, crc12_of}
 use Rattle.crc.proofs.Laws.{crc_lt}
 use Rattle.description.specs.Layout.{sealed}
-use Rattle.to_word.specs.Laid.{Puts, Padded, Seals}
+use Rattle.to_word.specs.Laid.{Waits, Puts, Padded, Seals}
 
 -- the bits of a list, zero past its end
 abbrev pub bits_of : List ℕ → ℕ → ℕ
@@ -36,27 +35,44 @@ bits_of x j = get_or x j 0
 bits_lt : (x : List ℕ) → Below 2 x → (j : ℕ) → bits_of x j < 2
 bits_lt x b j = below_get 2 x j (omega arith) b
 
--- ---- fields
-module _ (w : List ℕ) (at apart width : ℕ) (out : List ℕ) (s : Wide) where
-  pub puts_none : s.used < 32 → Puts w at apart width 0 out s out s
-  puts_none h = record { room = h; moved = omega (arith, mul-zero width); step = refl; len = refl; keeps = λ f bit k e. k }
+-- ---- a sink at a place
+byte_number : (w : List ℕ) (k : ℕ) → Below 256 w → get_or w k 0 ≡ number (bit_at w) (8 * k) 8
+byte_number w k b = sym (num_bits 8 (get_or w k 0) (below_get 256 w k (omega arith) b)) ∙ ap num (sym (run_byte w k)) ∙ num_tab (bit_at w) (8 * k) 8
 
-  pub puts_more : {i v : ℕ} {o o' : List ℕ} {r r' : Wide} → Puts w at apart width i out s o r → v ≡ field_at w (at + apart * i) width → Put v width o r o' r'
-      → Puts w at apart width (i + 1) out s o' r'
-  puts_more {i} p e q = record {
+pub waits : (w : List ℕ) (place : ℕ) {acc : ℕ} → Below 256 w → acc ≡ field_at w (place - place % 32) (place % 32)
+    → Waits w place (record { acc = acc; used = place % 32; at = place / 32 * 4 })
+waits w place {acc} b e =
+    let at : ℕ = 8 * (place / 32 * 4) in
+    let used : ℕ = place % 32 in
+    let i : place - used ≡ at = omega arith in
+    record {
+      room = omega arith;
+      stands = omega arith;
+      step = omega arith;
+      holds = λ f bit same.
+          let v : acc ≡ number f at used =
+          e ∙ ap (λ (j : ℕ). field_at w j used) i ∙ field_is w at used (omega arith) ∙ number_cong (bit_at w) f at used (λ k l. same (at + k) (omega arith)) in
+          record {
+            bytes = λ k l. byte_number w k b ∙ number_cong (bit_at w) f (8 * k) 8 (λ j m. same (8 * k + j) (omega arith));
+            part = ap (λ (y : ℕ). y % 2 ^ used) v ∙ mod-eq_of_lt (number_lt f bit at used);
+          };
+    }
+
+-- ---- sections
+module _ (w : List ℕ) (at apart : ℕ) (out : List ℕ) (s : Wide) where
+  pub puts_none : s.used < 32 → Puts w at apart 0 out s out s
+  puts_none h = record { room = h; moved = omega arith; step = refl; len = refl; keeps = λ f bit k e. k }
+
+  pub puts_more : {k v : ℕ} {o o' : List ℕ} {r r' : Wide} → Puts w at apart k out s o r → v ≡ field_at w (at + apart * k) 12 → Put v 12 o r o' r'
+      → Puts w at apart (k + 1) out s o' r'
+  puts_more {k} p e q = record {
     room = q.room;
-    moved = omega (arith, q.moved, p.moved, ap (λ (k : ℕ). width * k) (add-one i), mul-suc width i);
+    moved = omega (arith, q.moved, p.moved);
     step = q.step ∙ p.step;
     len = q.len ∙ p.len;
-    keeps = λ f bit h k.
-        q.keeps f bit (p.keeps f bit h (λ j l. k j (omega arith))) (e ∙ k i (omega arith) ∙ ap (λ (z : ℕ). number f z width) (sym p.moved));
+    keeps = λ f bit h there.
+        q.keeps f bit (p.keeps f bit h (λ j l. there j (omega arith))) (e ∙ there k (omega arith) ∙ ap (λ (z : ℕ). number f z 12) (sym p.moved));
   }
-
--- so many fields of any distance stay far within a number of 64 bits
-pub apart_small : (a i n : ℕ) → a ≤ 32 → i < n → n ≤ 4096 → a * i ≤ 131072
-apart_small a i n h k l =
-    let p : a * i ≤ a * 4096 = mul-le-mul_left a (omega arith) in
-    omega (arith, p)
 
 -- ---- zeros
 number_zero : (f : ℕ → ℕ) (i n : ℕ) → ((k : ℕ) → k < n → f (i + k) ≡ 0) → 0 ≡ number f i n
@@ -149,18 +165,6 @@ module _ (x : List ℕ) (b : Below 2 x) (n : length x ≡ 750) where
         let l : length w ≡ 96 = ap length e ∙ pack_length 96 _ in
         ap (crc_of 12 0x80F) (run_unpack w 0 750 (omega (arith, l)) ∙ ap (take 750) unpacked ∙ take_at x (replicate 18 0) 750 n)
 
-    byte_is : (k : ℕ) → k < 92 → get_or w k 0 ≡ number (bits_of (sealed x)) (8 * k) 8
-    byte_is k h =
-        ap (λ (l : List ℕ). get_or l k 0) e ∙ pack_at 96 (x ++ replicate 18 0) k (omega arith)
-        ∙ sym (number_list (x ++ replicate 18 0) (8 * k) 8 (omega (arith, plain_length)))
-        ∙ number_cong (bits_of (x ++ replicate 18 0)) (bits_of (sealed x)) (8 * k) 8 (λ j l. same_bits (8 * k + j) (omega arith))
-
-    part_is : field_at w 736 14 ≡ number (bits_of (sealed x)) 736 14
-    part_is =
-        field_is w 736 14 (omega arith)
-        ∙ number_cong (bit_at w) (bits_of (sealed x)) 736 14
-        (λ j l. bit_unpack w (736 + j) ∙ ap (λ (y : List ℕ). get_or y (736 + j) 0) unpacked ∙ same_bits (736 + j) (omega arith))
-
     value_is : crc * 64 ≡ number (bits_of (sealed x)) 750 18
     unfolding sealed
     value_is =
@@ -175,18 +179,16 @@ module _ (x : List ℕ) (b : Below 2 x) (n : length x ≡ 750) where
         let z : 0 ≡ number g 762 6 = number_zero g 762 6 (λ k l. shift k ∙ there (12 + k) ∙ ap (λ (i : ℕ). get_or y (i + k) 0) (sym (bits_length 12 c)) ∙ get_or-append-add (bits 12 c) (replicate 6 0) k 0 ∙ get_or-replicate 6 k 0 0 l) in
         sym (number_append g 750 12 6 ∙ omega (arith, a, z))
 
-    held : (acc : ℕ) → acc ≡ field_at w 736 14 → Held (bits_of (sealed x)) w (record { acc = acc; used = 14; at = 92 })
-    held acc f = record {
-      bytes = byte_is;
-      part = ap (λ (y : ℕ). y % 2 ^ 14) (f ∙ part_is) ∙ mod-eq_of_lt (number_lt (bits_of (sealed x)) (bits_lt (sealed x) sealed_below) 736 14);
-    }
+    bit_is : (j : ℕ) → j < 750 → bit_at w j ≡ bits_of (sealed x) j
+    bit_is j h = bit_unpack w j ∙ ap (λ (y : List ℕ). get_or y j 0) unpacked ∙ same_bits j h
 
-pub seals : {w w' : List ℕ} {c acc : ℕ} {r : Wide} → length w ≡ 96 → c ≡ crc12_of w 0 750 → acc ≡ field_at w 736 14
-    → Put (c * 64) 18 w (record { acc = acc; used = 14; at = 92 }) w' r → Seals w w'
-seals {w} {w'} {c} {acc} {r} m f g q = λ x b n e.
-    let v : c * 64 ≡ number (bits_of (sealed x)) 750 18 = ap (λ (y : ℕ). y * 64) (f ∙ crc_is x b n w e) ∙ value_is x b n w e in
+pub seals : {w w' : List ℕ} {c : ℕ} {s r : Wide} → length w ≡ 96 → c ≡ crc12_of w 0 750 → Waits w 750 s → Put (c * 64) 18 w s w' r → Seals w w'
+seals {w} {w'} {c} {s} m f t q = λ x b n e.
+    let g : ℕ → ℕ = bits_of (sealed x) in
+    let bit = bits_lt (sealed x) (sealed_below x b n) in
+    let v : c * 64 ≡ number g (place_of s) 18 = ap (λ (y : ℕ). y * 64) (f ∙ crc_is x b n w e) ∙ value_is x b n w e ∙ ap (λ (y : ℕ). number g y 18) (sym t.stands) in
     whole (sealed x) w' (sealed_length x b n) (q.len ∙ m)
-    (λ k p. (q.keeps (bits_of (sealed x)) (bits_lt (sealed x) (sealed_below x b n)) (held x b n w e acc g) v).bytes k (omega (arith, q.moved, q.step, q.room)))
+    (λ k p. (q.keeps g bit (t.holds g bit (bit_is x b n w e)) v).bytes k (omega (arith, q.moved, q.step, q.room, t.step, t.stands)))
 
 pub crc_small : (w : List ℕ) → crc12_of w 0 750 < 4096
 unfolding crc12_of

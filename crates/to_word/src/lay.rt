@@ -1,40 +1,54 @@
-// The word of an accepted sheet, through the sink: the lists in the order of table 14, zeros behind them, and the CRC.
-ghost use Rattle.std.specs.Prelude.{◌≡◌, ◌+◌, ◌*◌, ◌%◌, ◌≤◌, ◌<◌, length};
+// The word of an accepted sheet: the lists in the order of table 14, zeros behind them, and the CRC.
+ghost use Rattle.std.specs.Prelude.{◌≡◌, ◌+◌, ◌-◌, ◌*◌, ◌/◌, ◌%◌, ◌≤◌, ◌<◌, length, take, drop};
+ghost use Rattle.byte_runs.specs.Runs.{copied};
 ghost use Rattle.bits.specs.Lists.{unpack};
 ghost use Rattle.wide.specs.Held.{place_of};
 ghost use Rattle.description.specs.Layout.{word_of};
 ghost use Rattle.description.specs.Sheet.{form1};
 ghost use Rattle.description.specs.Form1.{sheet_lists};
-ghost use Rattle.to_word.specs.Laid.{Puts, Padded, Seals, Stated};
+ghost use Rattle.to_word.specs.Laid.{Waits, Puts, Padded, Seals, Stated};
 
 use ground::{SIGNALLING_LISTS, SIGNALLING_WORD};
-use views::{Counts, FORM1, MULTIPLEX, PIPE, SECTION, STREAM, TAIL, of_sheet};
+use views::{Counts, FORM1, SECTION, View, of_sheet, of_word};
 use wide::{Wide, put};
 
-// Records are copied by bytes.
-const BYTE: u32 = 8;
+// What stands between the bytes of two bit places of a sheet, to the byte of a place of the word.
+fn copy_list(sheet: &[u8], from: u32, until: u32, word: &mut [u8; SIGNALLING_WORD], to: u32)
+    requires { (from / 8 ≤ until / 8) × (until / 8 ≤ length sheet.now) }
+    ensures { word.new ≡ copied (take (until / 8 - from / 8) (drop (from / 8) sheet.now)) word.old (to / 8) }
+{
+    let list = &sheet[(from / 8) as usize..(until / 8) as usize];
+    byte_runs::copy(list, word, (to / 8) as usize);
+}
 
-// n fields of so many bits each, which stand so far apart from a place of the sheet on.
-fn put_fields(
+// A sink at a place of the word: of the bits before it those that share its four bytes wait.
+fn waiting(word: &[u8; SIGNALLING_WORD], place: usize) -> Wide
+    ensures { Waits word.now place result }
+{
+    let used = place % 32;
+    Wide {
+        acc: bits::field(word, place - used, used) as u64,
+        used,
+        at: place / 32 * 4,
+    }
+}
+
+// The d sections of a sheet.
+fn put_sections(
     out: &mut [u8; SIGNALLING_WORD],
     sink: Wide,
     sheet: &[u8],
-    at: u32,
-    apart: u32,
-    width: u32,
-    n: u32,
+    from: View,
+    d: u16,
 ) -> Wide
-    requires { (sink.used < 32) × (width ≤ 32) × (apart ≤ 32) × (n ≤ 4096) × (place_of sink + width * n ≤ 8 * length out.old) }
-    ensures { Puts sheet.now at apart width n out.old sink out.new result }
+    requires { (sink.used < 32) × (from.apart ≤ 32) × (place_of sink + 12 * d ≤ 8 * length out.old) }
+    ensures { Puts sheet.now from.sections from.apart d out.old sink out.new result }
 {
     let mut s = sink;
-    for i in 0..n {
-        let v = bits::field(
-            sheet,
-            at as usize + apart as usize * i as usize,
-            width as usize,
-        );
-        s = put(out, s, v as u64, width as usize);
+    for k in 0..d as usize {
+        let at = from.sections as usize + from.apart as usize * k;
+        let section = bits::field(sheet, at, SECTION as usize);
+        s = put(out, s, section as u64, SECTION as usize);
     }
     s
 }
@@ -48,21 +62,14 @@ fn pad(out: &mut [u8; SIGNALLING_WORD], sink: Wide)
     out[s.at..].fill(0);
 }
 
-// The CRC over the first 750 bits behind them (table 14): the bits before it that share its last four bytes wait in a sink.
+// The CRC over the first 750 bits behind them (table 14).
 fn seal(word: &mut [u8; SIGNALLING_WORD])
     ensures { Seals word.old word.new }
 {
     let crc = crc::crc12(word, 0, SIGNALLING_LISTS) as u64;
-    let last = SIGNALLING_WORD - 4;
-    let used = SIGNALLING_LISTS - 8 * last;
-    let acc = bits::field(word, 8 * last, used) as u64;
-    let waiting = Wide {
-        acc,
-        used,
-        at: last,
-    };
+    let sink = waiting(word, SIGNALLING_LISTS);
     // 12 bits, and the six spare ones, which are zero
-    put(word, waiting, crc * 64, 18);
+    put(word, sink, crc * 64, 18);
 }
 
 // The word of a sheet's lists, into 96 bytes.
@@ -70,41 +77,15 @@ pub fn lay(word: &mut [u8; SIGNALLING_WORD], sheet: &[u8], counts: Counts)
     requires { Stated sheet.now counts.p counts.s counts.d }
     ensures { word.new ≡ word_of (sheet_lists form1 counts.p counts.s counts.d (unpack sheet.now)) }
 {
-    let v = of_sheet(FORM1, counts.p, counts.s);
-    let sink = Wide {
-        acc: 0,
-        used: 0,
-        at: 0,
-    };
-    let sink = put_fields(word, sink, sheet, v.multiplex, BYTE, BYTE, MULTIPLEX / BYTE);
-    let sink = put_fields(
-        word,
-        sink,
-        sheet,
-        v.pipes,
-        BYTE,
-        BYTE,
-        PIPE / BYTE * counts.p as u32,
-    );
-    let sink = put_fields(word, sink, sheet, v.tail, BYTE, BYTE, TAIL / BYTE);
-    let sink = put_fields(
-        word,
-        sink,
-        sheet,
-        v.streams,
-        BYTE,
-        BYTE,
-        STREAM / BYTE * counts.s as u32,
-    );
-    let sink = put_fields(
-        word,
-        sink,
-        sheet,
-        v.sections,
-        v.apart,
-        SECTION,
-        counts.d as u32,
-    );
+    let from = of_sheet(FORM1, counts.p, counts.s);
+    let to = of_word(counts.p, counts.s);
+    // all lists but the sections are whole bytes, and each ends where the next one begins
+    copy_list(sheet, from.multiplex, from.tail, word, to.multiplex);
+    copy_list(sheet, from.pipes, from.streams, word, to.pipes);
+    copy_list(sheet, from.tail, from.pipes, word, to.tail);
+    copy_list(sheet, from.streams, from.sections, word, to.streams);
+    let sink = waiting(word, to.sections as usize);
+    let sink = put_sections(word, sink, sheet, from, counts.d);
     pad(word, sink);
     seal(word);
 }
