@@ -5,8 +5,10 @@ use mathlib.Core.Path.{◌≡◌, refl, sym, ap, ap₂, ◌∙◌, subst}
 use mathlib.Core.List.{List, [], ◌∷◌, ◌++◌}
 use native.Mathlib.Nat.{mod-eq_of_lt}
 use native.Mathlib.Omega.{arith}
-use lib.ListN.{length, get_or, take, drop, set, length-append, length-drop, take-append-drop}
-use lib.Seq.{paste, paste-suc, take_at, drop-drop, take-append-le, drop-append-le, length-take-le}
+use lib.ListN.{length, get_or, take, drop, length-append, length-drop, take-append-drop}
+use borrow.Rule.Slice.PartMut.{put_mid}
+use Rattle.std.proofs.lemmas.Slice.{put_mid-paste}
+use lib.Seq.{paste, paste-suc, length-paste, sets-eq, take_at, drop-drop, take-append-le, drop-append-le, length-take-le}
 use Rattle.bits.specs.Lists.{bits, num, unpack, pack, Below}
 use Rattle.bits.specs.Places.{field_at}
 use Rattle.bits.proofs.Lists.{bits_length, num_append, num_lt, unpack_below, unpack_length, unpack_drop, unpack_take, pack_length, pack_unpack, pack_take}
@@ -131,21 +133,28 @@ module _ (d k : ℕ) (b : List ℕ) (h : Below 2 b) (f : 12 * d ≤ length b) (l
       ∙ ap num (take_at (drop 8 (bits 4 0 ++ twelve)) rest 8 (length-drop 8 (bits 4 0 ++ twelve) ∙ omega (arith, row_length_lem)))
       ∙ section_low twelve twelve_below twelve_length
 
-pub section_more : (o w : List ℕ) (at to d k v : ℕ) → to + 2 * d ≤ length o → k < d → at + 12 * d ≤ 8 * length w → v ≡ field_at w (at + 12 * k) 12
-    → set (set (paste o to (sheet_sections d (drop at (unpack w))) (2 * k)) (to + 2 * k) (v / 256 % 256)) (to + 2 * k + 1) (v % 256)
-    ≡ paste o to (sheet_sections d (drop at (unpack w))) (2 * (k + 1))
+-- its two bytes
+abbrev section_bytes : ℕ → List ℕ
+section_bytes v = v / 256 % 256 ∷ v % 256 ∷ []
+
+pub section_more : (o w : List ℕ) (at to d k v : ℕ) {x : List ℕ} {n : ℕ} → to + 2 * d ≤ length o → k < d → at + 12 * d ≤ 8 * length w → v ≡ field_at w (at + 12 * k) 12
+    → x ≡ section_bytes v → n ≡ 2
+    → put_mid (to + 2 * k) n (paste o to (sheet_sections d (drop at (unpack w))) (2 * k)) x ≡ paste o to (sheet_sections d (drop at (unpack w))) (2 * (k + 1))
 unfolding twelve
-section_more o w at to d k v hd h f e =
+section_more o w at to d k v hd h f e ex en =
     let b : List ℕ = drop at (unpack w) in
     let x : List ℕ = sheet_sections d b in
-    let l : field_at w (at + 12 * k) 12 < 4096 = field_lt w (at + 12 * k) 12 (omega arith) in
+    let l : List ℕ = paste o to x (2 * k) in
+    let c : field_at w (at + 12 * k) 12 < 4096 = field_lt w (at + 12 * k) 12 (omega arith) in
     let q : v ≡ num (take 12 (drop (12 * k) b)) = e ∙ field_from w at (12 * k) 12 (omega arith) (omega arith) in
     let hb : Below 2 b = below_drop 2 at (unpack w) (unpack_below w) in
     let fb : 12 * d ≤ length b = rw (length-drop, unpack_length) (omega arith) in
     let m : v / 256 % 256 ≡ get_or x (2 * k) 0 = mod-eq_of_lt (omega arith) ∙ ap (λ (y : ℕ). y / 256) q ∙ sym (at_even d k b hb fb h) in
     let n : v % 256 ≡ get_or x (suc (2 * k)) 0 = ap (λ (y : ℕ). y % 256) q ∙ sym (at_odd d k b hb fb h) in
-    let i : to + 2 * k + 1 ≡ to + suc (2 * k) = omega arith in
-    let j : suc (suc (2 * k)) ≡ 2 * (k + 1) = omega arith in
     let z : length x ≡ 2 * d = pack_length (2 * d) (sheet_bits d b) in
-    rw (m, n, i, paste-suc o to x (2 * k) 0 (omega arith) (omega arith))
+    let r : length l ≡ length o = length-paste o to x (2 * k) (omega arith) (omega arith) in
+    let i : to + suc (2 * k) ≡ suc (to + 2 * k) = omega arith in
+    let j : suc (suc (2 * k)) ≡ 2 * (k + 1) = omega arith in
+    put_mid-paste (to + 2 * k) _ l _ (section_bytes v) 2 ex (sym en) refl ∙ sym (sets-eq (section_bytes v) l (to + 2 * k) (omega arith))
+    ∙ rw (m, n, paste-suc o to x (2 * k) 0 (omega arith) (omega arith), ← i)
     (paste-suc o to x (suc (2 * k)) 0 (omega arith) (omega arith) ∙ ap (paste o to x) j)

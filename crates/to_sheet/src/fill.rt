@@ -33,9 +33,8 @@ fn copy_sections(w: &[u8], at: u32, d: u16, out: &mut [u8], to: u32)
     let width = SECTION as usize;
     for k in 0..d as usize {
         let section = bits::field(w, at as usize + width * k, width) as u16;
-        let [high, low] = section.to_be_bytes();
-        out[to + 2 * k] = high;
-        out[to + 2 * k + 1] = low;
+        let place = to + 2 * k;
+        out[place..place + 2].copy_from_slice(&section.to_be_bytes());
     }
 }
 

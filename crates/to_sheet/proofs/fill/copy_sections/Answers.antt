@@ -1,6 +1,6 @@
 -- `to_sheet::fill::copy_sections` meets its contract: after k turns the two bytes of each of k sections are copied. Assumes nothing.
-use Rattle.std.proofs.Common.{ℕ, List, [], ◌∷◌, ◌≡◌, ◌+◌, ◌*◌, ◌/◌, ◌%◌, drop, ap, ◌∙◌, rules, arith}
-use lib.ListN.{set, get_or}
+use Rattle.std.proofs.Common.{ℕ, List, ◌≡◌, ◌+◌, ◌-◌, ◌*◌, ◌/◌, drop, ap, ◌∙◌, rules, arith}
+use borrow.Rule.Slice.PartMut.{put_mid}
 use lib.Seq.{paste, paste-zero}
 use Rattle.bits.specs.Lists.{unpack}
 use Rattle.records.proofs.Fields.{read_lt}
@@ -17,10 +17,10 @@ pub loop-k-preserved : goal.loop-k-preserved
 loop-k-preserved c =
     let a = c.args in
     let k = c.loop-k.k in
-    let v = c.field-section.result in
-    let two : List ℕ → List ℕ → List ℕ = λ b l. set (set l (a.to / 8 + 2 * k) (get_or b 0 0)) (a.to / 8 + 2 * k + 1) (get_or b 1 0) in
-    ap (λ b. two b c.loop-k.out) c.to_be_bytes.ensures ∙ ap (two (v / 256 % 256 ∷ v % 256 ∷ [])) c.loop-k.invariant
-    ∙ section_more a.out.now a.w.now a.at (a.to / 8) a.d k v (search rules) (search rules) (search rules) (search rules)
+    let to : ℕ = a.to / 8 in
+    ap (λ (l : List ℕ). put_mid (to + 2 * k) (to + 2 * k + 2 - (to + 2 * k)) l c.copy_from_slice.new.self) c.loop-k.invariant
+    ∙ section_more a.out.now a.w.now a.at to a.d k c.field-section.result (search rules) (search rules) (search rules) (search rules)
+    (c.copy_from_slice.ensures.after ∙ c.to_be_bytes.ensures) (omega arith)
 
 pub returns : goal.returns
 returns c =
