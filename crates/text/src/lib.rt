@@ -24,11 +24,11 @@ pub fn list(sheet: &[u8], out: &mut [u8]) -> Result<usize, Unlisted>
     if out.len() < ROOM {
         return Err(Unlisted::NoRoom);
     }
-    let answer = forms::check(sheet);
-    let Ok(counts) = answer else {
-        let refusal = answer.unwrap_err();
-        let n = words::line(out, 0, b"refused #\n", &[refusal.number() as u32]);
-        return Err(Unlisted::Refused { refusal, n });
-    };
-    Ok(lines::lines(sheet, counts, out))
+    match forms::check(sheet) {
+        Ok(counts) => Ok(lines::lines(sheet, counts, out)),
+        Err(refusal) => {
+            let n = words::line(out, 0, b"refused #\n", &[refusal.number() as u32]);
+            Err(Unlisted::Refused { refusal, n })
+        }
+    }
 }
