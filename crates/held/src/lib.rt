@@ -28,13 +28,20 @@ fn total(values: &[i8]) -> i16
     sum
 }
 
+// The sum of the n values from a place on; past the end there are none.
+pub fn sum(values: &[i8], at: usize, n: u8) -> i16
+    ensures { result ≡ sum (run values.now at n) }
+{
+    let rest = &values[at.min(values.len())..];
+    let copies = &rest[..usize::from(n).min(rest.len())];
+    total(copies)
+}
+
 // What a place holds whose copies are the n values from a place on: only their whole sum is clipped.
 pub fn of(values: &[i8], at: usize, n: u8) -> i8
     ensures { result ≡ held (run values.now at n) }
 {
-    let rest = &values[at.min(values.len())..];
-    let copies = &rest[..usize::from(n).min(rest.len())];
-    clip(total(copies))
+    clip(sum(values, at, n))
 }
 
 // Each place clipped. It is a pass of its own, since the compiler makes vectors of it.

@@ -22,7 +22,8 @@ use Rattle.patterns.specs.Sent.{places, total, sent, code_length}
 use Rattle.patterns.proofs.Blocks.{fit_coded, coded_fit, fit_after, coded_bounds, block_le}
 use Rattle.patterns.proofs.Length.{total_rule}
 use Rattle.placement.specs.Place.{received_from, held, placed, block_of, faults, placing}
-use Rattle.placement.specs.Inside.{run, Placeable, Placed}
+use Rattle.held.specs.Held.{run}
+use Rattle.placement.specs.Inside.{Placeable, Placed}
 use Rattle.placement.proofs.Received.{received_run}
 
 -- the copies of a place are the values behind those of the places before it

@@ -21,7 +21,7 @@ use Rattle.turbo.specs.Lane.{lane_bit}
 use Rattle.turbo.specs.Encode.{block_of, code_bits, codeword, encoded}
 use Rattle.turbo.proofs.CodeBits.{code_count, code_unpack, encoded_zero}
 use Rattle.placement.specs.Place.{received_from, held, placed, placing}
-use Rattle.placement.specs.Inside.{run}
+use Rattle.held.specs.Held.{run}
 use Rattle.placement.proofs.Accepting.{received_is, placing_zero}
 
 -- what a place of the lane holds

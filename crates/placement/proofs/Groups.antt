@@ -19,7 +19,8 @@ use Rattle.patterns.proofs.Totals.{total_zero, total_more, total_mono, total_con
 use Rattle.patterns.proofs.Groups.{data_once, tail_sent, copies_le}
 use Rattle.puncturing.proofs.Lanes.{data_digit, tail_digit}
 use Rattle.placement.specs.Place.{held}
-use Rattle.placement.specs.Inside.{run, Once, placed_group, Placeable, Placed}
+use Rattle.held.specs.Held.{run}
+use Rattle.placement.specs.Inside.{Once, placed_group, Placeable, Placed}
 
 module _ (values : List ℤ) (at counts : ℕ) (lane : List ℤ) (k : ℕ) where
   pub group_none : Is (placed_group values at counts lane k 0) at lane

@@ -19,7 +19,7 @@ use Rattle.patterns.specs.Sent.{places, total, sent}
 use Rattle.patterns.proofs.Blocks.{coded_bounds}
 use Rattle.patterns.proofs.Groups.{copies_le}
 use Rattle.placement.specs.Place.{received_from, held, placed}
-use Rattle.placement.specs.Inside.{run}
+use Rattle.held.specs.Held.{run}
 use Rattle.placement.proofs.Accepting.{received_is}
 
 -- a signed byte, and the sum of a place's copies

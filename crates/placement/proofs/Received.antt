@@ -15,7 +15,7 @@ use Rattle.ground.proofs.Choice.{choose_true, choose_false, choose_ap}
 use Rattle.patterns.specs.Sent.{spread, total}
 use Rattle.patterns.proofs.Spread.{length_spread}
 use Rattle.placement.specs.Place.{received_from}
-use Rattle.placement.specs.Inside.{run}
+use Rattle.held.specs.Held.{run}
 
 received_nil : (from : List ℕ) (k : ℕ) → received_from from [] k ≡ []
 unfolding received_from

@@ -1,14 +1,11 @@
 -- What functions inside this crate ask and promise; no public promise cites it.
 -- Assumes nothing.
-use Rattle.std.specs.Prelude.{ℕ, zero, suc, ◌+◌, ◌≤◌, ◌<◌, ◌≡◌, List, length, get_or, take, drop, set, ℤ, pos}
+use Rattle.std.specs.Prelude.{ℕ, zero, suc, ◌+◌, ◌≤◌, ◌<◌, ◌≡◌, List, length, get_or, set, ℤ, pos}
 use Rattle.ground.specs.Outcome.{Outcome}
 use Rattle.patterns.specs.Rows.{digit, copies}
 use Rattle.patterns.specs.Sent.{places, total}
+use Rattle.held.specs.Held.{run}
 use Rattle.placement.specs.Place.{held}
-
--- the n values from a place on
-abbrev pub run : List ℤ → ℕ → ℕ → List ℤ
-run values at n = take n (drop at values)
 
 -- no symbol of a group is sent twice
 abbrev pub Once : ℕ → Type 0

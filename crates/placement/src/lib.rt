@@ -12,18 +12,6 @@ ghost use Rattle.placement.specs.Inside.{Once, placed_group, Placeable, Placed};
 use ground::refusal::Refusal;
 use puncturing::{DATA_ENTRIES, TAIL_PLACES};
 
-// What a place holds: the sum of its copies.
-fn held(copies: &[i8]) -> i16
-    requires { length copies.now < 8 }
-    ensures { result ≡ held copies.now }
-{
-    let mut sum = 0;
-    for copy in copies {
-        sum += i16::from(*copy);
-    }
-    sum
-}
-
 // What a place holds that is sent at most once: its value, or nothing. It multiplies, since a branch on a row's digits would be mispredicted too often.
 fn once(value: i8, n: u8) -> i16
     requires { n < 2 }
@@ -72,9 +60,9 @@ fn place_tail(pattern: usize, n: usize, values: &[i8], at: usize, lane: &mut [i1
     let entries = puncturing::entries(pattern);
     let mut v = at;
     for k in 0..TAIL_PLACES {
-        let c = usize::from(puncturing::digit(entries[DATA_ENTRIES + k / 5], k % 5));
-        lane[5 * n + k] = held(&values[v..v + c]);
-        v += c;
+        let c = puncturing::digit(entries[DATA_ENTRIES + k / 5], k % 5);
+        lane[5 * n + k] = held::sum(values, v, c);
+        v += usize::from(c);
     }
 }
 

@@ -7,7 +7,8 @@ use lib.ListN.{take}
 use mir.Syntax.{w16}
 use mir.Val.{of_z, to_z}
 use Rattle.placement.specs.Place.{held}
-use Rattle.placement.proofs.Sums.{byte_back, word_back, product_is, once_mag}
+use Rattle.held.proofs.Sums.{byte_back, word_back}
+use Rattle.placement.proofs.Sums.{product_is, once_mag}
 use Rattle.placement.proofs.once.Goals as goal
 
 pub returns : goal.returns

@@ -6,8 +6,9 @@ use native.Mathlib.Omega.{arith}
 use lib.IntN.{ℤ, pos}
 use lib.ListN.{get_or, take}
 use Rattle.placement.specs.Place.{held}
-use Rattle.placement.specs.Inside.{run}
-use Rattle.placement.proofs.Sums.{byte_back, word_back, once_run}
+use Rattle.held.specs.Held.{run}
+use Rattle.held.proofs.Sums.{byte_back, word_back}
+use Rattle.placement.proofs.Sums.{once_run}
 use Rattle.placement.proofs.Groups.{group_none, group_more, group_enough}
 use borrow.Author.Rules.{rules}
 use Rattle.placement.proofs.place_group.Goals as goal
