@@ -10,12 +10,10 @@ ghost use Rattle.description.specs.Tests.{width_fault};
 ghost use Rattle.views.specs.Rows.{rows_at};
 ghost use Rattle.faults.specs.Faults.{list_fault};
 
+use ground::PATTERNS;
 use ground::refusal::Refusal;
 use records::Pipe;
 use views::View;
-
-// The patterns of table 8.
-const PATTERNS: u32 = 28;
 
 // Whether the width of a payload pipe is no multiple of its codeword's.
 #[tactic(auto, using(patterns::proofs::Rates::units_some))]
@@ -23,7 +21,8 @@ fn width_wrong(q: Pipe) -> bool
     ensures { result ≡ both (ltb q.pattern 28) (not (eqb (q.width % units_of q.pattern) 0)) }
 {
     // 28 to 63 stand for no pattern, and are carried (document 01)
-    q.pattern < PATTERNS && q.width % patterns::units(q.pattern as usize) as u32 != 0
+    let p = q.pattern as usize;
+    p < PATTERNS && q.width % patterns::units(p) as u32 != 0
 }
 
 // 9: whether one of the p payload pipes at a place has such a width.
