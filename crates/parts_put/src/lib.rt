@@ -28,11 +28,7 @@ fn put(out: &mut [u8], v: &[u64; 4])
     requires { (length out.old ≡ 28) × Below (2 ^ 49) v.now }
     ensures { out.new ≡ pack 28 (fields49 v.now ++ bits 28 0) }
 {
-    let mut s = Wide {
-        acc: 0,
-        used: 0,
-        at: 0,
-    };
+    let mut s = Wide::new(0);
     for part in v {
         s = put49(out, s, *part);
     }

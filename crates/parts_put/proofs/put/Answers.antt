@@ -1,13 +1,13 @@
 -- `parts_put::put` meets its contract: after k numbers the sink holds just these. Assumes nothing.
-use mathlib.Core.Path.{◌≡◌}
+use mathlib.Core.Path.{◌≡◌, sym, subst}
 use native.Mathlib.Omega.{arith}
 use Rattle.wide.proofs.Widens.{wide_put}
-use Rattle.parts_put.proofs.Puts.{done_none, done_more, done_all}
+use Rattle.parts_put.proofs.Puts.{Done, done_none, done_more, done_all}
 use Rattle.parts_put.proofs.put.Goals as goal
 
 pub loop-part-init : goal.loop-part-init
 loop-part-init c =
-    done_none c.args.v.now (omega arith) c.requires.1 c.args.out.now c.requires.0
+    subst (Done c.args.v.now 0 c.args.out.now) (sym c.new-s.ensures) (done_none c.args.v.now (omega arith) c.requires.1 c.args.out.now c.requires.0)
 
 pub loop-part-preserved : goal.loop-part-preserved
 loop-part-preserved c =
