@@ -8,7 +8,7 @@ ghost use Rattle.pairs.specs.Pairs.{pairs_of, unpacked};
 ghost use Rattle.pairs.specs.Inside.{Copied, spread, Stored, Coupled};
 
 // as many pairs as a block's 24 segments have
-const PAYLOAD_PAIRS: usize = 12288;
+pub const PAYLOAD_PAIRS: usize = 12288;
 
 const SIGNALLING_PAIRS: usize = 768;
 // the bytes of half a segment

@@ -58,6 +58,7 @@ fn unpaired(pattern: usize, n: usize) -> bool
     n == SIGNALLING_BLOCK && 0 < pattern
 }
 
+// Pattern and n stay two numbers, here and in the crates above: a struct of both would be taken apart at each call of the public functions, whose parameters are promised.
 // Whether a block of n bits is coded under a pattern, or why not: 1 where there is no block, 3 for a number above 27, 4 for the block of 762 bits with a pattern other than 0.
 pub fn unfit(pattern: usize, n: usize) -> Result<(), Refusal>
     ensures { status result ≡ first_of (block_faults pattern n) }

@@ -21,6 +21,7 @@ pub struct Profile {
 #[derive(Clone, Copy)]
 pub struct Way {
     pub profile: Profile,
+    // the flag's number and no bool: `way_of` (crate pipe, specs/Frame.antt) has the field of table 16 here, and `place_of` tests it for 0
     pub regrouping: u8,
     pub slots: u16,
     pub units: u8,
@@ -34,7 +35,7 @@ pub fn tap_delays(p: Profile) -> [u16; TAPS]
 }
 
 // The unit of a frame of mixed codewords, counted over all slots, that is read for a place of the pipe's frame.
-// It takes the three numbers of a way that it looks at, and asks for no profile.
+// It takes the three numbers of a way that it looks at, and asks for no profile. A bool for the flag would ask more of callers: `unit_for` says what is read for any number.
 pub fn unit_for(regrouping: u8, slots: u16, units: u8, place: u32) -> usize
     ensures { result ≡ unit_for regrouping slots units place }
 {

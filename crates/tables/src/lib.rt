@@ -9,6 +9,7 @@ ghost use Rattle.tables.specs.Plan.{plan_of};
 
 // A pattern's tables, and how many bits it sends of the six groups of each half.
 // The half h has its tables from 192 h on: 64 entries by the registers, 64 by the six bits of encoder 2, 64 by those of encoder 1.
+// The halves are no two structs in an array: `plan_of` (specs/Plan.antt) numbers the entries of both as one list, with the two counts beside it.
 #[derive(Clone, Copy)]
 pub struct Plan {
     pub look: [u64; 384],

@@ -12,6 +12,7 @@ pub struct Half {
 }
 
 // How often the place i of a half is sent.
+// A half is a number, here and above, and no enum: `half_at` and `look_at` count places and entries by it, so that each use and each clause would turn the enum into that number.
 fn digit_at(rows: &[u16; 18], h: usize, i: usize) -> u8
     requires { (h < 2) × (i < 36) }
     ensures { (result ≡ half_at rows.now h i) × (result < 2) }

@@ -14,7 +14,8 @@ use ground::TAPS;
 use records::Pipe;
 use views::View;
 
-// The taps of n sections, so many bits apart, whose first stands at a place.
+// The taps of n sections, so many bits apart, whose first stands at a place. `tap_lengths::total` adds up alike, of a pipe as it is lent: one function for both would be public,
+// and a public function may not ask that no place wraps, as this one does.
 #[tactic(auto, using(bits::proofs::Places::field_lt))]
 fn taps_at(w: &[u8], at: usize, apart: u32, n: u16) -> u32
     requires { at < 2 ^ 63 }

@@ -27,7 +27,7 @@ fn three(w: &[u8], i: usize) -> usize
 }
 
 // Six bit periods more, of the half h of the pattern's twelve groups: the six bits u of encoder 1 and v of encoder 2. The encoders are linear: what u, v and the
-// registers give is the sum of what each gives by itself.
+// registers give is the sum of what each gives by itself. The half is a number, by which `plan_of` counts the entries.
 fn chunk(out: &mut [u8], plan: &Plan, h: usize, c: Coder, u: usize, v: usize) -> Coder
     requires { (h < 2) × (u < 64) × (v < 64) × (c.both < 64) }
     ensures { Is (chunked out.old plan.now h c u v) result out.new }
