@@ -16,6 +16,10 @@ use Rattle.bits.specs.Lists.{bits, pack}
 use Rattle.bits.proofs.Lists.{pack_length}
 use Rattle.parity.specs.Part.{parts_of}
 use Rattle.infoword.specs.Suffix.{header}
+use Rattle.infoword.specs.Types.{stream_type}
+use Rattle.infoword.specs.declared.StreamType.{StreamType}
+use Rattle.infoword.specs.declared.StreamType.TheVariants.{Empty, Transparent, TransportStream, IpStream, Other}
+use Rattle.infoword.proofs.Types.{number_of}
 use Rattle.infoword.specs.Word.{filled, fields49, word_with, word_of}
 use Rattle.infoword.specs.Steps.{parted, sealed, closing}
 use Rattle.infoword.proofs.Written.{filled_length}
@@ -62,8 +66,16 @@ close_is : (w : List ℕ) (head : ℕ) → length w ≡ 1536 → closing w head 
 unfolding closing
 close_is w head n = choose_true (sealed (take 1532 w) (bits 18 head)) w (eq-eqb (length w) 1536 n)
 
+-- any type but 2 has no more
+pub carried_other : (stream : StreamType) (count : ℕ) (null w : List ℕ) → (stream ≡ TransportStream → ⊥) → carried stream count null w ≡ w
+carried_other TransportStream count null w n = absurd (n refl)
+carried_other Empty count null w n = refl
+carried_other Transparent count null w n = refl
+carried_other IpStream count null w n = refl
+carried_other Other count null w n = refl
+
 module _ (kind id count : ℕ) (p null w w1 w2 w3 : List ℕ) (a : Writable kind count (length p) (length null) (length w)) (i : id < 256)
-    (e1 : w1 ≡ filled 1532 p ++ drop 1532 w) (e2 : w2 ≡ carried kind count null w1) (e3 : w3 ≡ closing w2 (id * 0x40 + kind * 8)) where
+    (e1 : w1 ≡ filled 1532 p ++ drop 1532 w) (e2 : w2 ≡ carried (stream_type kind) count null w1) (e3 : w3 ≡ closing w2 (id * 0x40 + kind * 8)) where
   short : length p ≤ 1532
   short = omega (arith, a.payload_is, lent_most kind count a.count_is)
 
@@ -78,9 +90,8 @@ module _ (kind id count : ℕ) (p null w w1 w2 w3 : List ℕ) (a : Writable kind
 
   -- types 0 and 1
   other : (kind ≡ 2 → ⊥) → w3 ≡ word_of kind id p
-  unfolding carried
   other n =
-      let f : w2 ≡ w1 = e2 ∙ choose_false (parted (filled_up count null w1)) w1 (ne_eqb kind 2 n) in
+      let f : w2 ≡ w1 = e2 ∙ carried_other (stream_type kind) count null w1 (λ e. n (omega (arith, number_of kind (stream_type kind) TransportStream refl e))) in
       e3 ∙ ap (λ (x : List ℕ). closing x (id * 0x40 + kind * 8)) f ∙ close_is w1 (id * 0x40 + kind * 8) first_length
       ∙ ap₂ sealed (ap (take 1532) e1 ∙ take_at (filled 1532 p) (drop 1532 w) 1532 full) head_is
       ∙ word_short kind id p (has_not kind n (λ e. omega (arith, a.kind_is))) (omega (arith, a.kind_is)) full
@@ -113,9 +124,9 @@ module _ (kind id count : ℕ) (p null w w1 w2 w3 : List ℕ) (a : Writable kind
     behind = pack 28 (fields49 (parts_of packets) ++ bits 28 0)
 
     second_is : w2 ≡ packets ++ behind ++ drop 1532 up
-    unfolding carried parted up
+    unfolding parted up
     second_is =
-        e2 ∙ choose_true (parted (filled_up count null w1)) w1 (eq-eqb kind 2 two)
+        e2 ∙ ap (λ (k : ℕ). carried (stream_type k) count null w1) two
         ∙ choose_true (take 1504 up ++ pack 28 (fields49 (parts_of up) ++ bits 28 0) ++ drop 1532 up) up (eq-eqb (length up) 1536 up_length)
         ∙ ap₂ (λ (x y : List ℕ). x ++ pack 28 (fields49 y ++ bits 28 0) ++ drop 1532 up)
         (ap (take 1504) up_is ∙ take_at packets (drop 1504 w1) 1504 eight)

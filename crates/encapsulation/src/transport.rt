@@ -2,12 +2,13 @@
 ghost use Rattle.std.specs.Prelude.{◌≡◌, ◌≤◌, length};
 ghost use Rattle.encapsulation.specs.Steps.{filled_up, carried};
 
+use ground::PAYLOAD_WORD;
 use infoword::StreamType;
 use write_faults::{TS_PACKET, TS_PACKETS};
 
 // Null packets behind the first count of eight packets.
-fn fill_up(null: &[u8], word: &mut [u8], count: usize)
-    requires { (length null.now ≡ 188) × (length word.old ≡ 1536) × (count ≤ 8) }
+fn fill_up(null: &[u8], word: &mut [u8; PAYLOAD_WORD], count: usize)
+    requires { (length null.now ≡ 188) × (count ≤ 8) }
     ensures { word.new ≡ filled_up count null.now word.old }
 {
     for k in count..TS_PACKETS as usize {
@@ -16,11 +17,11 @@ fn fill_up(null: &[u8], word: &mut [u8], count: usize)
 }
 
 // What stream type 2 has more than the others: null packets for those that are missing, and Parity_Parts.
-pub fn carry(kind: u32, count: u32, null: &[u8], word: &mut [u8])
-    requires { (kind ≡ 2 → (count ≤ 8) × (length null.now ≡ 188)) × (length word.old ≡ 1536) }
-    ensures { word.new ≡ carried kind count null.now word.old }
+pub fn carry(stream: StreamType, count: u32, null: &[u8], word: &mut [u8; PAYLOAD_WORD])
+    requires { stream ≡ StreamType.TransportStream → (count ≤ 8) × (length null.now ≡ 188) }
+    ensures { word.new ≡ carried stream count null.now word.old }
 {
-    if StreamType::from(kind) == StreamType::TransportStream {
+    if stream == StreamType::TransportStream {
         fill_up(null, word, count as usize);
         parts_put::put_parts(word);
     }
