@@ -24,6 +24,9 @@ pub struct Header {
     pub address: u16,
 }
 
+// The bytes of such a header as it is handed to C.
+pub const HEADER_BYTES: usize = 16;
+
 // Where the header's other fields stand (tables 2 to 5), in bits.
 pub const FIRST_HEADER_ADDRESS: usize = 12248;
 

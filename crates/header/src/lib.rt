@@ -9,7 +9,8 @@ ghost use Rattle.fields.specs.Report.{holding_of, header_of};
 use fields::{ENCAP_VER, Header, STREAM_ID};
 use infoword::{RFU, RFU_WITH_PARITY, STREAM_TYPE, StreamType};
 
-// RFU, by stream type: 32 bits in type 2 (table 4), 20 in type 3 (table 5), 4 in any other.
+// RFU, by stream type: 32 bits in type 2 (table 4), 20 in type 3 (table 5), 4 in any other. The type stands beside the word: a struct of the two
+// would be built for this and parity_of alone.
 fn rfu_of(word: &[u8], stream: StreamType) -> u32
     requires { stream ≡ stream_type (kind_of word.now) }
     ensures { result ≡ rfu_of word.now }

@@ -4,10 +4,8 @@
 ghost use Rattle.std.specs.Prelude.{◌≡◌};
 ghost use Rattle.header_bytes.specs.Bytes.{header_put};
 
+pub use fields::HEADER_BYTES as HEADER;
 use fields::Header;
-
-// The bytes of a header as it is handed to C.
-pub const HEADER: usize = 16;
 
 // A header into 16 bytes, with how many bytes of packets were handed out; any other length is left alone.
 pub fn put_header(out: &mut [u8], h: Header, handed: u16)

@@ -6,8 +6,7 @@ ghost use Rattle.infoword.specs.Suffix.{has_parity, covered_of, header_crc};
 ghost use Rattle.infoword.specs.Types.{stream_type};
 ghost use Rattle.infoword.specs.Word.{packet_bytes};
 
-// The stream types (tables 1 to 5), in the order of their numbers. No other number names one: a word that has it is refused, and it stands for no
-// number itself.
+// The stream types (tables 1 to 5), in the order of their numbers, and `Other` for every number that names none: a word that has it is refused.
 #[derive(Clone, Copy, Debug, PartialEq, Eq)]
 pub enum StreamType {
     Empty,

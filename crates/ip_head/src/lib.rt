@@ -26,8 +26,8 @@ pub fn address_after(rest: usize) -> usize
     if rest <= LAST_HEADER { rest } else { NO_HEADER }
 }
 
-// A packet that is not sent: a type that is not 1 or 2, or a length that is not 1 to 4,095. A queue and the memory of an open packet have a
-// byte and two for them; what two bits and twelve can hold is asked by `unfit`.
+// A packet that is not sent: a type that is not 1 or 2, or a length that is not 1 to 4,095. The two are numbers, as any can stand in a queue and
+// in the memory of an open packet; of what a header's two bits and twelve can hold `unfit` asks less.
 pub fn unsendable(kind: u8, n: usize) -> bool
     ensures { result ≡ unfit kind n }
 {

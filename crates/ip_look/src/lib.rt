@@ -9,7 +9,7 @@ ghost use Rattle.ground.specs.Refusals.{status};
 ghost use Rattle.ip_look.specs.Looking.{got_of, ip_faults};
 ghost use Rattle.ip_look.specs.Steps.{packets_refusal};
 
-use fields::FIRST_HEADER_ADDRESS;
+use fields::{FIRST_HEADER_ADDRESS, HEADER_BYTES};
 use ground::PAYLOAD_WORD;
 use ground::refusal::Refusal;
 use infoword::{STREAM_TYPE, StreamType};
@@ -18,10 +18,8 @@ use ip_open::ROOM;
 // The payload of a word of type 3, in bytes (table 5).
 pub use infoword::TRANSPORT_BYTES as PAYLOAD;
 
-// The most bytes that one word hands out, and those of a header as it is handed to C.
+// The most bytes that one word hands out.
 const PACKETS: usize = 6604;
-
-const HEADER: usize = 16;
 
 // Whether the payload of a word of type 3 is refused, with 19, by the packet that is open. A word or a memory of any other length is not
 // looked at: that is another refusal.
@@ -55,7 +53,7 @@ fn packets_refusal(word: &[u8], memory: &[u8]) -> Result<(), Refusal>
 pub fn refusal(word: &[u8], memory: &[u8], room: usize, header: usize) -> Result<(), Refusal>
     ensures { status result ≡ first_of (ip_faults word.now memory.now room header) }
 {
-    if memory.len() != ROOM || room < PACKETS || header != HEADER {
+    if memory.len() != ROOM || room < PACKETS || header != HEADER_BYTES {
         return Err(Refusal::LengthWrong);
     }
     // both are looked for before either answers: the word's own comes first

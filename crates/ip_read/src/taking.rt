@@ -19,7 +19,7 @@ pub struct Place {
     pub out: usize,
 }
 
-// The four bytes before a packet that is handed out: type, error, length.
+// The four bytes before a packet that is handed out: type and error, which stay the bytes that a header or the memory has, and the length.
 fn put_four(packets: &mut [u8], out: usize, kind: u8, error: u8, size: usize)
     requires { size < 65536 }
     ensures { packets.new ≡ copied (four_of kind error size) packets.old out }

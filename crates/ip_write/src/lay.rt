@@ -38,7 +38,7 @@ fn length_at(queue: &[u8], at: usize) -> usize
     byte_runs::two(queue[at + 2], queue[at + 3])
 }
 
-// A packet's header as one number (table 6): IP_Packet_Type, IP_Packet_Error, IP_Packet_Length, RFU 0.
+// A packet's header as one number (table 6): IP_Packet_Type, the byte that the queue has, IP_Packet_Error, IP_Packet_Length, RFU 0.
 fn header_number(kind: u8, error: u8, n: usize) -> usize
     requires { n < 65536 }
     ensures { result ≡ header_number kind (choose (eqb error 0) 0 1) n }

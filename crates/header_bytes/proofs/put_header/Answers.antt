@@ -9,16 +9,16 @@ use Rattle.header_bytes.specs.Bytes.{header_with, header_put}
 use Rattle.header_bytes.proofs.Stores.{sixteen, header_put_lem}
 use Rattle.header_bytes.proofs.put_header.Goals as goal
 
-pub returns-then-out-ne-HEADER : goal.returns-then-out-ne-HEADER
+pub returns-then-out-ne-HEADER_BYTES : goal.returns-then-out-ne-HEADER_BYTES
 unfolding header_put
-returns-then-out-ne-HEADER c =
+returns-then-out-ne-HEADER_BYTES c =
     let a = c.args in
-    sym (choose_false (header_with a.h a.handed) a.out.now (ne_eqb (length a.out.now) 16 (λ e. c.if-out-ne-HEADER.true e)))
+    sym (choose_false (header_with a.h a.handed) a.out.now (ne_eqb (length a.out.now) 16 (λ e. c.if-out-ne-HEADER_BYTES.true e)))
 
 pub returns : goal.returns
 returns c =
     let h = c.args.h in
-    let n : length c.args.out.now ≡ 16 = c.if-out-ne-HEADER.false in
+    let n : length c.args.out.now ≡ 16 = c.if-out-ne-HEADER_BYTES.false in
     let zeros : c.fill.new.self ≡ replicate 16 0 = c.fill.ensures.after (λ y p. p) ∙ ap (λ (k : ℕ). replicate k 0) n in
     let rfu : c.copy_from_slice.new.self ≡ to_be_bytes w32 h.rfu = c.copy_from_slice.ensures.after ∙ c.to_be_bytes.ensures in
     let address : c.copy_from_slice-3.new.self ≡ to_be_bytes w16 h.address = c.copy_from_slice-3.ensures.after ∙ c.to_be_bytes-2.ensures in
