@@ -28,13 +28,10 @@ fn main(rt: HostRuntime) -> io::Result<()> {
     let mut sheet = [0u8; 2572];
     let n = read_full(&mut rt.stdin(), &mut sheet)?;
     let mut out = [0u8; 1024];
-    let answer = text::list(&sheet[..n], &mut out);
-    let Ok(length) = answer else {
+    match text::list(&sheet[..n], &mut out) {
+        Ok(n) => rt.stdout().write_all(&out[..n]),
         // A refused sheet: the text is the refusal number alone.
-        if let Err(Unlisted::Refused { refusal: _, n }) = answer {
-            rt.stdout().write_all(&out[..n])?;
-        }
-        return Ok(());
-    };
-    rt.stdout().write_all(&out[..length])
+        Err(Unlisted::Refused { refusal: _, n }) => rt.stdout().write_all(&out[..n]),
+        Err(Unlisted::NoRoom) => Ok(()),
+    }
 }
