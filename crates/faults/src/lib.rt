@@ -32,7 +32,8 @@ fn any_width_wrong(w: &[u8], at: u32, p: u8) -> bool
     (0..p).any(|i| width_wrong(records::pipe_at(w, at, i)))
 }
 
-// The three tests, and the first that finds something. All are made before one is answered, so that each stands alone.
+// The three tests, and the first that finds something. All are made before one is answered, so that each stands alone. None looks at the sections, so that p
+// and s are given and no Counts.
 pub fn list_fault(w: &[u8], v: View, p: u8, s: u16) -> Result<(), Refusal>
     ensures { status result ≡ list_fault v p s w.now }
 {

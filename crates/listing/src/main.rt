@@ -7,7 +7,8 @@ use std::io;
 use std::io::{Read, Write};
 use text::Unlisted;
 
-// Reads until the room is full or the input ends, and says how many bytes stand in it then.
+// Reads until the room is full or the input ends, and says how many bytes stand in it then. By hand: std's read_exact fails
+// where the input ends first, and its read_to_end takes a heap.
 fn read_full<R: Read>(input: &mut R, room: &mut [u8]) -> io::Result<usize>
     ensures { IfOk result (λ n. n ≤ length room.new) }
 {

@@ -47,7 +47,7 @@ fn own(width: u32, count: u32) -> u16
     count as u16 + 1
 }
 
-// The payload pipe k, counted from 0, of those whose records begin at a place.
+// The payload pipe k, counted from 0, of those whose records begin at a place. k is no field of Pipe: a record alone, as pipe and profile read it, has none.
 pub fn pipe_at(w: &[u8], at: u32, k: u8) -> Pipe
     ensures { result ≡ pipe_at w.now at k }
 {

@@ -30,7 +30,8 @@ pub struct Counts {
     pub d: u16,
 }
 
-// The first bit of each list, and how far apart sections are.
+// The first bit of each list, and how far apart sections are. The bytes that it is of are no field: `list_fault`, `any_taps_wrong` and `places_of` are public
+// and are given the two apart.
 #[derive(Clone, Copy)]
 pub struct View {
     pub multiplex: u32,
@@ -41,7 +42,7 @@ pub struct View {
     pub apart: u32,
 }
 
-// A word with p payload pipes and s streams: multiplex, pipes, tail, streams, sections.
+// A word with p payload pipes and s streams: multiplex, pipes, tail, streams, sections. No place depends on d, so that here and below no Counts is asked for.
 pub fn of_word(p: u8, s: u16) -> View
     ensures { result ≡ word_view p s }
 {
