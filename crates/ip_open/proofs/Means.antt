@@ -1,17 +1,16 @@
--- Laws of the numbers in front of an open packet's bytes: how they are read, and what they mean.
+-- Laws of the numbers in front of an open packet's bytes: what is told of them, and what they mean.
 -- Assumes nothing.
 use Prim.Native.Nat.{ℕ, ◌≤◌, ◌<◌}
 use mathlib.Core.Path.{◌≡◌, sym, ap, subst}
-use mathlib.Core.Bool.{Bool, true, false, not}
+use mathlib.Core.Bool.{true, false}
 use mathlib.Core.List.{List}
 use native.Mathlib.Omega.{arith}
-use lib.Dec.{eqb, ltb}
-use lib.ListN.{length, get_or, take, drop, length-take, length-drop}
+use lib.ListN.{length, take, drop, length-take, length-drop}
 use lib.Seq.{length-take-le}
 use Rattle.std.specs.Prelude.{Result, Ok, Err}
-use Rattle.ground.specs.Choice.{choose, both}
+use Rattle.ground.specs.Choice.{choose}
 use Rattle.ip.specs.Read.{Open, none, begun, Sound}
-use Rattle.ip.specs.Memory.{unfit, two_at, open_in}
+use Rattle.ip.specs.Memory.{open_in}
 use Rattle.ip.proofs.Memory.{open_meant}
 use Rattle.ip_open.specs.declared.Opened.{Opened}
 use Rattle.ip_open.specs.Opening.{Front, opened_in, told}
@@ -19,13 +18,6 @@ use Rattle.ip_open.specs.Opening.{Front, opened_in, told}
 -- the numbers alone
 abbrev numbers : Front → Opened
 numbers f = record { kind = f.kind; error = f.error; length = f.length; sofar = f.sofar }
-
--- they are read one by one
-pub read_one_by_one : (m : List ℕ) (b : Bool) (mark t e spare n k : ℕ) → mark ≡ get_or m 0 0 → t ≡ get_or m 1 0 → e ≡ get_or m 2 0 → spare ≡ get_or m 3 0
-    → n ≡ two_at m 4 → k ≡ two_at m 6 → b ≡ both (eqb mark 1) (both (not (unfit t n)) (both (ltb e 2) (both (eqb spare 0) (ltb k n))))
-    → record { begun = b; kind = t; error = e; length = n; sofar = k } ≡ opened_in m
-unfolding opened_in
-read_one_by_one m b mark t e spare n k e0 e1 e2 e3 e4 e6 test = cc (e0, e1, e2, e3, e4, e6, test)
 
 -- two answers that tell the same are one
 pub told_same : (r s : Result Opened Opened) → told r ≡ told s → r ≡ s
