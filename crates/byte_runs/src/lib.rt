@@ -1,8 +1,8 @@
-// Bytes in lent memory: a copy of a run to a place, and one byte from a place on; and the number in two bytes.
+// Bytes in lent memory: a copy of a run to a place, also by places in bits, and one byte from a place on; and the number in two bytes.
 #![tactic(auto)]
 
-ghost use Rattle.std.specs.Prelude.{◌≡◌, ◌+◌, ◌*◌, ◌<◌};
-ghost use Rattle.byte_runs.specs.Runs.{copied, filled_from};
+ghost use Rattle.std.specs.Prelude.{◌≡◌, ◌+◌, ◌*◌, ◌/◌, ◌<◌};
+ghost use Rattle.byte_runs.specs.Runs.{copied, run_of, filled_from};
 
 // The bytes of a run to a place of out; where they do not fit there, nothing is touched.
 pub fn copy(run: &[u8], out: &mut [u8], at: usize)
@@ -14,6 +14,16 @@ pub fn copy(run: &[u8], out: &mut [u8], at: usize)
             out[at + i] = run[i];
         }
     }
+}
+
+// The run from the byte of one bit place of w to that of another, as much of it as there is, to the byte of a bit place of out; where it does not fit there,
+// nothing is touched.
+pub fn copy_between(w: &[u8], from: u32, until: u32, out: &mut [u8], to: u32)
+    ensures { out.new ≡ copied (run_of w.now from until) out.old (to / 8) }
+{
+    let until = w.len().min((until / 8) as usize);
+    let from = until.min((from / 8) as usize);
+    copy(&w[from..until], out, (to / 8) as usize);
 }
 
 // One byte from a place of out to its end; where the place is past the end, nothing is touched.

@@ -9,7 +9,7 @@ use native.Mathlib.Omega.{arith}
 use lib.ListN.{length, get_or, take, drop, replicate, length-append, length-drop, length-replicate, get_or-replicate, replicate-append-replicate, get_or-append, get_or-eq_default}
 use lib.Seq.{paste, take_at, drop_at, drop-drop, take-append-le, drop-append-le, get_or-append-add, length-take-le}
 use Rattle.ground.proofs.Copy.{paste_behind}
-use Rattle.byte_runs.specs.Runs.{copied}
+use Rattle.byte_runs.specs.Runs.{copied, run_of}
 use Rattle.byte_runs.proofs.Runs.{copied_all}
 use Rattle.bits.specs.Lists.{num, unpack, pack, Below}
 use Rattle.bits.specs.Places.{bit_at, number, field_at}
@@ -135,7 +135,7 @@ run_bits sh i n h = sym (unpack_take n (drop i sh) (rw length-drop (omega arith)
 
 -- a copy by the bytes that its places stand for
 list_is : (sh out : List ℕ) (from until to : ℕ) {o : List ℕ} (i n k : ℕ) → from / 8 ≡ i → until / 8 ≡ i + n → to / 8 ≡ k
-    → o ≡ copied (take (until / 8 - from / 8) (drop (from / 8) sh)) out (to / 8) → o ≡ copied (take n (drop i sh)) out k
+    → o ≡ copied (run_of sh from until) out (to / 8) → o ≡ copied (take n (drop i sh)) out k
 list_is sh out from until to i n k e f g h =
     let d : until / 8 - from / 8 ≡ n = omega arith in
     h ∙ (λ j. copied (take (d j) (drop (e j) sh)) out (g j))
@@ -320,10 +320,10 @@ module _ (sh : List ℕ) (p s d : ℕ) (long : length sh ≡ sheet_end form1 p s
     pub room : r.used < 32
 
   pub laid : (v u : View) → SheetPlaces form1 p s v → WordPlaces p s u → (out : List ℕ) {o₁ o₂ o₃ o₄ o₅ : List ℕ} {r₄ r₅ : Wide} → length out ≡ 96
-      → o₁ ≡ copied (take (v.tail / 8 - v.multiplex / 8) (drop (v.multiplex / 8) sh)) out (u.multiplex / 8)
-      → o₂ ≡ copied (take (v.streams / 8 - v.pipes / 8) (drop (v.pipes / 8) sh)) o₁ (u.pipes / 8)
-      → o₃ ≡ copied (take (v.pipes / 8 - v.tail / 8) (drop (v.tail / 8) sh)) o₂ (u.tail / 8)
-      → o₄ ≡ copied (take (v.sections / 8 - v.streams / 8) (drop (v.streams / 8) sh)) o₃ (u.streams / 8)
+      → o₁ ≡ copied (run_of sh v.multiplex v.tail) out (u.multiplex / 8)
+      → o₂ ≡ copied (run_of sh v.pipes v.streams) o₁ (u.pipes / 8)
+      → o₃ ≡ copied (run_of sh v.tail v.pipes) o₂ (u.tail / 8)
+      → o₄ ≡ copied (run_of sh v.streams v.sections) o₃ (u.streams / 8)
       → Waits o₄ u.sections r₄
       → Puts sh v.sections v.apart d o₄ r₄ o₅ r₅
       → Laid o₅ r₅

@@ -1,6 +1,5 @@
 // The word of an accepted sheet: the lists in the order of table 14, zeros behind them, and the CRC.
-ghost use Rattle.std.specs.Prelude.{◌≡◌, ◌+◌, ◌-◌, ◌*◌, ◌/◌, ◌%◌, ◌≤◌, ◌<◌, length, take, drop};
-ghost use Rattle.byte_runs.specs.Runs.{copied};
+ghost use Rattle.std.specs.Prelude.{◌≡◌, ◌+◌, ◌*◌, ◌%◌, ◌≤◌, ◌<◌, length};
 ghost use Rattle.bits.specs.Lists.{unpack};
 ghost use Rattle.wide.specs.Held.{place_of};
 ghost use Rattle.description.specs.Layout.{word_of};
@@ -8,18 +7,10 @@ ghost use Rattle.description.specs.Sheet.{form1};
 ghost use Rattle.description.specs.Form1.{sheet_lists};
 ghost use Rattle.to_word.specs.Laid.{Waits, Puts, Padded, Seals, Stated};
 
+use byte_runs::copy_between;
 use ground::{SIGNALLING_LISTS, SIGNALLING_WORD};
 use views::{Counts, FORM1, SECTION, View, of_sheet, of_word};
 use wide::{Wide, put};
-
-// What stands between the bytes of two bit places of a sheet, to the byte of a place of the word.
-fn copy_list(sheet: &[u8], from: u32, until: u32, word: &mut [u8; SIGNALLING_WORD], to: u32)
-    requires { (from / 8 ≤ until / 8) × (until / 8 ≤ length sheet.now) }
-    ensures { word.new ≡ copied (take (until / 8 - from / 8) (drop (from / 8) sheet.now)) word.old (to / 8) }
-{
-    let list = &sheet[(from / 8) as usize..(until / 8) as usize];
-    byte_runs::copy(list, word, (to / 8) as usize);
-}
 
 // A sink at a place of the word: of the bits before it those that share its four bytes wait.
 fn waiting(word: &[u8; SIGNALLING_WORD], place: usize) -> Wide
@@ -80,10 +71,10 @@ pub fn lay(word: &mut [u8; SIGNALLING_WORD], sheet: &[u8], counts: Counts)
     let from = of_sheet(FORM1, counts.p, counts.s);
     let to = of_word(counts.p, counts.s);
     // all lists but the sections are whole bytes, and each ends where the next one begins
-    copy_list(sheet, from.multiplex, from.tail, word, to.multiplex);
-    copy_list(sheet, from.pipes, from.streams, word, to.pipes);
-    copy_list(sheet, from.tail, from.pipes, word, to.tail);
-    copy_list(sheet, from.streams, from.sections, word, to.streams);
+    copy_between(sheet, from.multiplex, from.tail, word, to.multiplex);
+    copy_between(sheet, from.pipes, from.streams, word, to.pipes);
+    copy_between(sheet, from.tail, from.pipes, word, to.tail);
+    copy_between(sheet, from.streams, from.sections, word, to.streams);
     let sink = waiting(word, to.sections as usize);
     let sink = put_sections(word, sink, sheet, from, counts.d);
     pad(word, sink);
