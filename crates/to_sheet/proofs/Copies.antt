@@ -9,6 +9,8 @@ use lib.ListN.{length, get_or, take, drop, length-append, length-drop, take-appe
 use borrow.Rule.Slice.PartMut.{put_mid}
 use Rattle.std.proofs.lemmas.Slice.{put_mid-paste}
 use lib.Seq.{paste, paste-suc, length-paste, sets-eq, take_at, drop-drop, take-append-le, drop-append-le, length-take-le}
+use Rattle.byte_runs.specs.Runs.{copied, run_of}
+use Rattle.byte_runs.proofs.Runs.{copied_all}
 use Rattle.bits.specs.Lists.{bits, num, unpack, pack, Below}
 use Rattle.bits.specs.Places.{field_at}
 use Rattle.bits.proofs.Lists.{bits_length, num_append, num_lt, unpack_below, unpack_length, unpack_drop, unpack_take, pack_length, pack_unpack, pack_take}
@@ -22,7 +24,7 @@ use Rattle.description.proofs.Rows.{join_cut, joins_at, cuts_at, cuts_length}
 use Rattle.description.proofs.Form1.{in_length}
 
 -- ---- the n bytes at a bit place that is a byte's
-pub bytes_at : (w : List ℕ) (at n : ℕ) → Below 256 w → at % 8 ≡ 0 → at / 8 + n ≤ length w → take n (drop (at / 8) w) ≡ pack n (drop at (unpack w))
+bytes_at : (w : List ℕ) (at n : ℕ) → Below 256 w → at % 8 ≡ 0 → at / 8 + n ≤ length w → take n (drop (at / 8) w) ≡ pack n (drop at (unpack w))
 bytes_at w at n b z h =
     let a : ℕ = at / 8 in
     let v : List ℕ = drop a w in
@@ -34,6 +36,17 @@ bytes_at w at n b z h =
     ∙ ap (pack n) (sym (unpack_take n v (omega (arith, l))))
     ∙ pack_take n (8 * n) (unpack v) (omega arith) (omega (arith, unpack_length v, l))
     ∙ ap (pack n) (sym (unpack_drop a w (omega arith)) ∙ ap (λ (k : ℕ). drop k (unpack w)) i)
+
+-- a copy of them, as the bytes of the bits that stand there
+pub pasted : (w o : List ℕ) (from until to n : ℕ) {o' : List ℕ} → Below 256 w → from % 8 ≡ 0 → until / 8 ≡ from / 8 + n → until / 8 ≤ length w → to / 8 + n ≤ length o
+    → o' ≡ copied (run_of w from until) o (to / 8) → o' ≡ paste o (to / 8) (pack n (drop from (unpack w))) n
+pasted w o from until to n b z e h k f =
+    let x : List ℕ = pack n (drop from (unpack w)) in
+    let l : length x ≡ n = pack_length n _ in
+    let d : until / 8 - from / 8 ≡ n = omega arith in
+    f
+    ∙ ap (λ (y : List ℕ). copied y o (to / 8)) (ap (λ (i : ℕ). take i (drop (from / 8) w)) d ∙ bytes_at w from n b z (omega arith))
+    ∙ sym (copied_all x o (to / 8) (omega arith) n (sym l))
 
 -- ---- a section more of a copy: section k of the d at a bit place
 
