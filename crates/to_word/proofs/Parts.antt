@@ -1,6 +1,6 @@
 -- The word of a sheet's lists part by part: each part is bits of the sheet, and the fields that go into the sink are those bits.
 -- Assumes nothing.
-use Prim.Native.Nat.{ℕ, zero, suc, ◌+◌, ◌-◌, ◌*◌, ◌/◌, ◌%◌, ◌≤◌, ◌<◌}
+use Prim.Native.Nat.{ℕ, zero, suc, ◌+◌, ◌-◌, ◌*◌, ◌/◌, ◌≤◌, ◌<◌}
 use mathlib.Core.Path.{◌≡◌, refl, sym, ap, ap₂, ◌∙◌}
 use mathlib.Core.List.{List, [], ◌∷◌, ◌++◌, append_assoc}
 use native.Mathlib.Nat.{mul_comm}
@@ -13,11 +13,9 @@ use Rattle.byte_runs.specs.Runs.{copied, run_of}
 use Rattle.byte_runs.proofs.Runs.{copied_all}
 use Rattle.bits.specs.Lists.{num, unpack, pack, Below}
 use Rattle.bits.specs.Places.{bit_at, number, field_at}
-use Rattle.bits.proofs.Below.{below_append, below_drop, below_replicate, below_get}
+use Rattle.bits.proofs.Below.{below_append, below_drop, below_replicate}
 use Rattle.bits.proofs.Lists.{unpack_below, unpack_length, unpack_append, unpack_take, unpack_drop}
 use Rattle.bits.proofs.Joined.{bit_unpack, number_list, field_num}
-use Rattle.wide.specs.Held.{place_of, Held}
-use Rattle.wide.specs.declared.Wide.{Wide}
 use Rattle.description.specs.Rows.{width, join, cut, joins, cuts}
 use Rattle.description.specs.Fields.{table15, table16, table16b, table18, table19}
 use Rattle.description.specs.Description.{Lists}
@@ -30,7 +28,7 @@ use Rattle.description.proofs.Form1.{bare_length}
 use Rattle.description.proofs.Word.{body_below}
 use Rattle.views.specs.declared.View.{View}
 use Rattle.views.proofs.Views.{WordPlaces, SheetPlaces}
-use Rattle.to_word.specs.Laid.{Waits, Puts, Padded, Seals}
+use Rattle.to_word.specs.Laid.{Placed, Seals}
 use Rattle.to_word.proofs.Sinks.{bits_of}
 
 -- ---- sections without the four bits above each
@@ -313,46 +311,29 @@ module _ (sh : List ℕ) (p s d : ℕ) (long : length sh ≡ sheet_end form1 p s
   unfolding ds
   sections_fields k l = section_there sh all zs (8 * sections_from form1 p s) (72 + 48 * p + 16 * s) d sections_behind (omega (arith, long)) (omega (arith, all_long)) k l
 
-  pub record Laid (o : List ℕ) (r : Wide) : Type 0 where
-    pub held : Held (bits_of (padded (body (sheet_lists form1 p s d (unpack sh))) ++ replicate 18 0)) o r
-    pub place : place_of r ≡ size p s d
-    pub step : r.at % 4 ≡ 0
-    pub room : r.used < 32
-
-  pub laid : (v u : View) → SheetPlaces form1 p s v → WordPlaces p s u → (out : List ℕ) {o₁ o₂ o₃ o₄ o₅ : List ℕ} {r₄ r₅ : Wide} → length out ≡ 96
+  pub laid : (v u : View) → SheetPlaces form1 p s v → WordPlaces p s u → (out : List ℕ) {o₁ o₂ o₃ o₄ o₅ : List ℕ} → length out ≡ 96
       → o₁ ≡ copied (run_of sh v.multiplex v.tail) out (u.multiplex / 8)
       → o₂ ≡ copied (run_of sh v.pipes v.streams) o₁ (u.pipes / 8)
       → o₃ ≡ copied (run_of sh v.tail v.pipes) o₂ (u.tail / 8)
       → o₄ ≡ copied (run_of sh v.streams v.sections) o₃ (u.streams / 8)
-      → Waits o₄ u.sections r₄
-      → Puts sh v.sections v.apart d o₄ r₄ o₅ r₅
-      → Laid o₅ r₅
+      → Placed sh v.sections v.apart d u.sections o₄ o₅
+      → o₅ ≡ pack 96 all
   unfolding x₁ x₂ x₃ x₄
-  laid v u a b out {o₁} {o₂} {o₃} {o₄} {r₄ = r₄} room e₁ e₂ e₃ e₄ w q =
+  laid v u a b out {o₁} {o₂} {o₃} {o₄} room e₁ e₂ e₃ e₄ q =
       let k₁ = list_is sh out v.multiplex v.tail u.multiplex form1 7 0 (omega (arith, a.multiplex)) (omega (arith, a.tail)) (omega (arith, b.multiplex)) e₁ in
       let k₂ = list_is sh o₁ v.pipes v.streams u.pipes (pipes_from form1) (6 * p) 7 (omega (arith, a.pipes)) (omega (arith, a.streams)) (omega (arith, b.pipes)) e₂ in
       let k₃ = list_is sh o₂ v.tail v.pipes u.tail (tail_from form1) 2 (7 + 6 * p) (omega (arith, a.tail)) (omega (arith, a.pipes)) (omega (arith, b.tail)) e₃ in
       let k₄ = list_is sh o₃ v.streams v.sections u.streams (streams_from form1 p) (2 * s) (9 + 6 * p) (omega (arith, a.streams)) (omega (arith, a.sections)) (omega (arith, b.streams)) e₄ in
       let f : ℕ → ℕ = bits_of all in
-      let bit : (j : ℕ) → f j < 2 = λ j. below_get 2 all j (omega arith) all_bits in
       let c = all_copied room k₁ k₂ k₃ k₄ in
-      let p₄ : place_of r₄ ≡ 72 + 48 * p + 16 * s = w.stands ∙ b.sections in
       let same : (j : ℕ) → j < u.sections → bit_at o₄ j ≡ f j =
       λ j l. bit_copied bytes (ds ++ zs) c copies_bits j (omega (arith, bytes_long, b.sections)) ∙ ap (λ (y : List ℕ). get_or y j 0) (sym all_bytes) in
-      let h₄ = w.holds f bit same in
-      record {
-        held = q.keeps f bit h₄ (λ k l. ap₂ (λ (x y : ℕ). field_at sh (x + y * k) 12) a.sections a.apart ∙ sections_fields k l ∙ ap (λ (x : ℕ). number f (x + 12 * k) 12) (sym p₄));
-        place = omega (arith, q.moved, p₄);
-        step = q.step ∙ omega (arith, w.step);
-        room = q.room;
-      }
+      let fields : (k : ℕ) → k < d → field_at sh (v.sections + v.apart * k) 12 ≡ number f (u.sections + 12 * k) 12 =
+      λ k l. ap₂ (λ (x y : ℕ). field_at sh (x + y * k) 12) a.sections a.apart ∙ sections_fields k l ∙ ap (λ (x : ℕ). number f (x + 12 * k) 12) (sym b.sections) in
+      q all all_bits all_long same fields (λ j l. zero_behind j (omega (arith, b.sections)))
 
--- padded, and then sealed, it is the word of the lists
-module _ (sh : List ℕ) (p s d : ℕ) (long : length sh ≡ sheet_end form1 p s d) (fits : size p s d ≤ 750) {o x : List ℕ} {r : Wide} (l : Laid sh p s d long fits o r) (f : Padded o r x) where
-  word_padded : x ≡ pack 96 (padded (body (sheet_lists form1 p s d (unpack sh))) ++ replicate 18 0)
-  word_padded = f _ (all_bits sh p s d long fits) (all_long sh p s d long fits) l.held (λ j h. zero_behind sh p s d long fits j (omega (arith, l.place)))
-
-  module _ {y : List ℕ} (g : Seals x y) where
-    pub word_laid : y ≡ word_of (sheet_lists form1 p s d (unpack sh))
-    unfolding word_of
-    word_laid = g _ (padded_bits sh p s d long fits) (padded_long sh p s d long fits) word_padded
+-- sealed, it is the word of the lists
+pub word_laid : (sh : List ℕ) (p s d : ℕ) (long : length sh ≡ sheet_end form1 p s d) (fits : size p s d ≤ 750) {x y : List ℕ} → x ≡ pack 96 (all sh p s d long fits) → Seals x y
+    → y ≡ word_of (sheet_lists form1 p s d (unpack sh))
+unfolding word_of
+word_laid sh p s d long fits e g = g _ (padded_bits sh p s d long fits) (padded_long sh p s d long fits) e

@@ -26,7 +26,7 @@ use Rattle.wide.specs.declared.Wide.{Wide}
 use Rattle.crc.specs.Crc.{crc_of, crc12_of}
 use Rattle.crc.proofs.Laws.{crc_lt}
 use Rattle.description.specs.Layout.{sealed}
-use Rattle.to_word.specs.Laid.{Waits, Puts, Padded, Seals}
+use Rattle.to_word.specs.Laid.{Waits, Placed, Seals}
 
 -- the bits of a list, zero past its end
 abbrev pub bits_of : List ℕ → ℕ → ℕ
@@ -59,6 +59,16 @@ waits w place {acc} b e =
     }
 
 -- ---- sections
+
+-- d sections of the bytes w, so far apart, went into a sink: whatever f it held before, it holds it 12 d places further, where the sections are those bits of f
+pub record Puts (w : List ℕ) (at apart d : ℕ) (out : List ℕ) (s : Wide) (out' : List ℕ) (r : Wide) : Type 0 where
+  pub room : r.used < 32
+  pub moved : place_of r ≡ place_of s + 12 * d
+  pub step : r.at % 4 ≡ s.at % 4
+  pub len : length out' ≡ length out
+  pub keeps : (f : ℕ → ℕ) → ((j : ℕ) → f j < 2) → Held f out s
+      → ((k : ℕ) → k < d → field_at w (at + apart * k) 12 ≡ number f (place_of s + 12 * k) 12) → Held f out' r
+
 module _ (w : List ℕ) (at apart : ℕ) (out : List ℕ) (s : Wide) where
   pub puts_none : s.used < 32 → Puts w at apart 0 out s out s
   puts_none h = record { room = h; moved = omega arith; step = refl; len = refl; keeps = λ f bit k e. k }
@@ -107,8 +117,13 @@ whole : (x o : List ℕ) → length x ≡ 768 → length o ≡ 96 → ((k : ℕ)
 unfolding packed
 whole x o n m h = tab_ext (λ k. number (bits_of x) (8 * k) 8) 0 96 o m h ∙ packed_pack 96 x (omega arith)
 
+-- zeros behind the bits that are in the sink, to the end of a word: the word is that of 768 bits x that it held the front of, where the rest of them is zero
+abbrev Padded : List ℕ → Wide → List ℕ → Type 0
+Padded out s out' =
+    (x : List ℕ) → Below 2 x → length x ≡ 768 → Held (bits_of x) out s → ((j : ℕ) → place_of s ≤ j → get_or x j 0 ≡ 0) → out' ≡ pack 96 x
+
 -- zeros behind what was flushed
-pub flushed_all : {out o : List ℕ} {s r : Wide} (m : List ℕ) → Flushed out s o r → length m ≡ 96 - r.at → ((k : ℕ) → k < length m → get_or m k 0 ≡ 0) → Padded out s (put_mid r.at (96 - r.at) o m)
+flushed_all : {out o : List ℕ} {s r : Wide} (m : List ℕ) → Flushed out s o r → length m ≡ 96 - r.at → ((k : ℕ) → k < length m → get_or m k 0 ≡ 0) → Padded out s (put_mid r.at (96 - r.at) o m)
 flushed_all {out} {o} {s} {r} m f l z = λ x b n h w.
     let held : Held (bits_of x) o r = f.keeps x b h w in
     let front : List ℕ = take r.at o in
@@ -125,6 +140,20 @@ flushed_all {out} {o} {s} {r} m f l z = λ x b n h w.
           ∙ get_or-append m rest 0 (k - r.at) (omega (arith, l)) ∙ z (k - r.at) (omega (arith, l))
           ∙ zeros (bits_of x) (8 * k) 8 (λ u g. w u (omega (arith, f.behind, f.empty))))
     ])
+
+-- sections and zeros
+module _ {sh : List ℕ} {at apart d place : ℕ} {out o o' : List ℕ} {s r e : Wide} (w : Waits out place s) (q : Puts sh at apart d out s o r) (long : length out ≡ 96)
+    (fits : place + 12 * d ≤ 750) (z : Is (wider o r 0 (32 - r.used)) e o') where
+  pub ended : Flushed o r o' e
+  ended = flushed q.room (omega (arith, q.step, w.step)) (omega (arith, q.moved, w.stands)) (q.len ∙ long) z
+
+  pub placed : (m : List ℕ) → length m ≡ 96 - e.at → ((k : ℕ) → k < length m → get_or m k 0 ≡ 0) → Placed sh at apart d place out (put_mid e.at (96 - e.at) o' m)
+  placed m l y = λ x b n same fields zero.
+      let f : ℕ → ℕ = bits_of x in
+      let bit = bits_lt x b in
+      let there : (k : ℕ) → k < d → field_at sh (at + apart * k) 12 ≡ number f (place_of s + 12 * k) 12 =
+      λ k i. fields k i ∙ ap (λ (j : ℕ). number f (j + 12 * k) 12) (sym w.stands) in
+      flushed_all m ended l y x b n (q.keeps f bit (w.holds f bit same) there) (λ j i. zero j (omega (arith, q.moved, w.stands)))
 
 -- ---- the CRC
 module _ (x : List ℕ) (b : Below 2 x) (n : length x ≡ 750) where

@@ -16,19 +16,13 @@ pub record Waits (w : List ℕ) (place : ℕ) (s : Wide) : Type 0 where
   pub step : s.at % 4 ≡ 0
   pub holds : (f : ℕ → ℕ) → ((j : ℕ) → f j < 2) → ((j : ℕ) → j < place → bit_at w j ≡ f j) → Held f w s
 
--- d sections of the bytes w, so far apart, went into a sink: whatever f it held before, it holds it 12 d places further, where the sections are those bits of f
-pub record Puts (w : List ℕ) (at apart d : ℕ) (out : List ℕ) (s : Wide) (out' : List ℕ) (r : Wide) : Type 0 where
-  pub room : r.used < 32
-  pub moved : place_of r ≡ place_of s + 12 * d
-  pub step : r.at % 4 ≡ s.at % 4
-  pub len : length out' ≡ length out
-  pub keeps : (f : ℕ → ℕ) → ((j : ℕ) → f j < 2) → Held f out s
-      → ((k : ℕ) → k < d → field_at w (at + apart * k) 12 ≡ number f (place_of s + 12 * k) 12) → Held f out' r
-
--- zeros behind the bits that are in the sink, to the end of a word: the word is that of 768 bits x that it held the front of, where the rest of them is zero
-abbrev pub Padded : List ℕ → Wide → List ℕ → Type 0
-Padded out s out' =
-    (x : List ℕ) → Below 2 x → length x ≡ 768 → Held (λ j. get_or x j 0) out s → ((j : ℕ) → place_of s ≤ j → get_or x j 0 ≡ 0) → out' ≡ pack 96 x
+-- d sections of a sheet, so far apart, put at a place of the word out, and zeros behind them: the word is that of any 768 bits x that begin with what stands
+-- before the place, go on with the sections and are zero behind them
+abbrev pub Placed : List ℕ → ℕ → ℕ → ℕ → ℕ → List ℕ → List ℕ → Type 0
+Placed sh at apart d place out out' =
+    (x : List ℕ) → Below 2 x → length x ≡ 768 → ((j : ℕ) → j < place → bit_at out j ≡ get_or x j 0)
+    → ((k : ℕ) → k < d → field_at sh (at + apart * k) 12 ≡ number (λ j. get_or x j 0) (place + 12 * k) 12)
+    → ((j : ℕ) → place + 12 * d ≤ j → get_or x j 0 ≡ 0) → out' ≡ pack 96 x
 
 -- the CRC put behind 750 bits x
 abbrev pub Seals : List ℕ → List ℕ → Type 0

@@ -1,11 +1,10 @@
 // The word of an accepted sheet: the lists in the order of table 14, zeros behind them, and the CRC.
-ghost use Rattle.std.specs.Prelude.{◌≡◌, ◌+◌, ◌*◌, ◌%◌, ◌≤◌, ◌<◌, length};
+ghost use Rattle.std.specs.Prelude.{◌≡◌, ◌+◌, ◌*◌, ◌≤◌};
 ghost use Rattle.bits.specs.Lists.{unpack};
-ghost use Rattle.wide.specs.Held.{place_of};
 ghost use Rattle.description.specs.Layout.{word_of};
 ghost use Rattle.description.specs.Sheet.{form1};
 ghost use Rattle.description.specs.Form1.{sheet_lists};
-ghost use Rattle.to_word.specs.Laid.{Waits, Puts, Padded, Seals, Stated};
+ghost use Rattle.to_word.specs.Laid.{Waits, Placed, Seals, Stated};
 
 use byte_runs::copy_between;
 use ground::{SIGNALLING_LISTS, SIGNALLING_WORD};
@@ -24,33 +23,19 @@ fn waiting(word: &[u8; SIGNALLING_WORD], place: usize) -> Wide
     }
 }
 
-// The d sections of a sheet.
-fn put_sections(
-    out: &mut [u8; SIGNALLING_WORD],
-    sink: Wide,
-    sheet: &[u8],
-    from: View,
-    d: u16,
-) -> Wide
-    requires { (sink.used < 32) × (from.apart ≤ 32) × (place_of sink + 12 * d ≤ 8 * length out.old) }
-    ensures { Puts sheet.now from.sections from.apart d out.old sink out.new result }
+// The d sections of a sheet to a place of the word, and zeros behind them.
+fn put_sections(word: &mut [u8; SIGNALLING_WORD], at: u32, sheet: &[u8], from: View, d: u16)
+    requires { (from.apart ≤ 32) × (at + 12 * d ≤ 750) }
+    ensures { Placed sheet.now from.sections from.apart d at word.old word.new }
 {
-    let mut s = sink;
+    let mut sink = waiting(word, at as usize);
     for k in 0..d as usize {
-        let at = from.sections as usize + from.apart as usize * k;
-        let section = bits::field(sheet, at, SECTION as usize);
-        s = put(out, s, section as u64, SECTION as usize);
+        let place = from.sections as usize + from.apart as usize * k;
+        let section = bits::field(sheet, place, SECTION as usize);
+        sink = put(word, sink, section as u64, SECTION as usize);
     }
-    s
-}
-
-// Zeros behind the lists, to the end of the word.
-fn pad(out: &mut [u8; SIGNALLING_WORD], sink: Wide)
-    requires { (sink.used < 32) × (sink.at % 4 ≡ 0) × (place_of sink ≤ 750) }
-    ensures { Padded out.old sink out.new }
-{
-    let s = put(out, sink, 0, 32 - sink.used);
-    out[s.at..].fill(0);
+    let end = put(word, sink, 0, 32 - sink.used);
+    word[end.at..].fill(0);
 }
 
 // The CRC over the first 750 bits behind them (table 14).
@@ -75,8 +60,6 @@ pub fn lay(word: &mut [u8; SIGNALLING_WORD], sheet: &[u8], counts: Counts)
     copy_between(sheet, from.pipes, from.streams, word, to.pipes);
     copy_between(sheet, from.tail, from.pipes, word, to.tail);
     copy_between(sheet, from.streams, from.sections, word, to.streams);
-    let sink = waiting(word, to.sections as usize);
-    let sink = put_sections(word, sink, sheet, from, counts.d);
-    pad(word, sink);
+    put_sections(word, to.sections, sheet, from, counts.d);
     seal(word);
 }

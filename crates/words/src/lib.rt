@@ -1,4 +1,5 @@
 // Text put into a buffer from a place on: each function returns the place behind what it put. What has no room behind the place is left out.
+// Buffer and place are two parameters: `line`, and pipe_lines' `pipes` and `tail`, are public and promise the place that they return.
 #![tactic(auto)]
 
 ghost use Rattle.std.specs.Prelude.{[], ◌∷◌};
