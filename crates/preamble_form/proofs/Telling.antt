@@ -1,14 +1,14 @@
 -- Laws of the forms: the test that tells two lists apart, what is told of bytes, and what that says.
 -- Assumes nothing.
-use Prim.Native.Nat.{ℕ}
-use mathlib.Core.Bool.{true, false}
+use Prim.Native.Nat.{ℕ, zero, suc, ◌<◌}
+use mathlib.Core.Bool.{Bool, true, false, ◌&&◌}
 use mathlib.Core.Path.{◌≡◌, refl, sym, ap, ◌∙◌}
 use mathlib.Core.List.{List, [], ◌∷◌}
+use native.Mathlib.Nat.{not-suc-le-zero}
 use native.Mathlib.Omega.{arith}
 use borrow.Author.Tests.{eq-eqb, ne_eqb}
 use lib.Dec.{eqb}
-use lib.ListN.{length, set}
-use lib.Pointwise.{pointwise}
+use lib.ListN.{length, get_or, take, set}
 use Rattle.std.specs.Prelude.{Option, None, Some, Result, Ok, Err}
 use Rattle.ground.specs.Outcome.{Is, Told}
 use Rattle.ground.specs.Choice.{choose, both, first_of}
@@ -23,13 +23,25 @@ use Rattle.preamble_form.specs.Forms.{form_of, told, form_faults, forming, form_
 use Rattle.preamble_form.specs.declared.Form.{Form}
 use Rattle.preamble_form.specs.declared.Form.TheVariants.{Upright, Inverted}
 
--- ---- the test: what == of two slices gives
-pub same_pointwise : (l m : List ℕ) → pointwise eqb l m ≡ same l m
+-- ---- the test
+
+-- one entry more
+pub same_more : (l m : List ℕ) (i : ℕ) → i < length l → i < length m
+    → same (take (suc i) l) (take (suc i) m) ≡ same (take i l) (take i m) && eqb (get_or l i 0) (get_or m i 0)
 unfolding same
-same_pointwise [] [] = refl
-same_pointwise [] (y ∷ m) = refl
-same_pointwise (x ∷ l) [] = refl
-same_pointwise (x ∷ l) (y ∷ m) = ap (both (eqb x y)) (same_pointwise l m)
+same_more [] m i h k = absurd (not-suc-le-zero h)
+same_more (x ∷ l) [] i h k = absurd (not-suc-le-zero k)
+same_more (x ∷ l) (y ∷ m) zero h k = only (eqb x y)
+  where
+    only : (b : Bool) → both b true ≡ b
+    only true = refl
+    only false = refl
+same_more (x ∷ l) (y ∷ m) (suc i) h k =
+    ap (both (eqb x y)) (same_more l m i (omega arith) (omega arith)) ∙ past (eqb x y) (same (take i l) (take i m)) (eqb (get_or l i 0) (get_or m i 0))
+  where
+    past : (a b c : Bool) → both a (b && c) ≡ both a b && c
+    past true b c = refl
+    past false b c = refl
 
 -- ---- what is told of bytes
 

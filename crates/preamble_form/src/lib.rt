@@ -1,7 +1,7 @@
 // Which of the two preambles (clause 4.10.1.2) bytes are, if any.
 #![tactic(auto)]
 
-ghost use Rattle.std.specs.Prelude.{◌≡◌};
+ghost use Rattle.std.specs.Prelude.{◌≡◌, length};
 ghost use Rattle.ground.specs.Outcome.{Is};
 ghost use Rattle.ground.specs.Refusals.{status};
 ghost use Rattle.preamble.specs.Preamble.{due};
@@ -24,12 +24,17 @@ const FORM: usize = 1;
 
 const NEITHER: u8 = 0;
 
-// Whether bytes are the preamble.
-#[tactic(auto, using(crate::proofs::Telling::same_pointwise))]
+// Whether 32 bytes are the preamble. All of them are compared, which the compiler makes vectors of: == stops at the first that differs, and takes a third more.
 fn is_sof(inverted: bool, bytes: &[u8]) -> bool
+    requires { length bytes.now ≡ 32 }
     ensures { result ≡ same bytes.now (due inverted) }
 {
-    bytes == sof::due(inverted).as_slice()
+    let sof = sof::due(inverted);
+    let mut is = true;
+    for i in 0..PREAMBLE {
+        is &= bytes[i] == sof[i];
+    }
+    is
 }
 
 // The form of 32 bytes, if they have one; refuses any other length.
