@@ -5,8 +5,10 @@
 ghost use Rattle.std.specs.Prelude.{◌≡◌};
 ghost use Rattle.order.specs.Order.{order};
 
+use ground::SIGNALLING_BLOCK;
+
 // The addresses in the order in which encoder 2 reads them. With the first of each row stands its counter value.
-const ADDRESSES: [u16; 762] = [
+const ADDRESSES: [u16; SIGNALLING_BLOCK] = [
     27, // 0
     515, 257, 141, 657, 407, 73, 579, 335, 205, 705, 461, 53, 563, 289, 189, 689, 441, 105, 621,
     375, 237, 737, 493, 22, // 32
@@ -75,7 +77,7 @@ const ADDRESSES: [u16; 762] = [
 ];
 
 // The stored list, bound once by whoever reads it: a constant array is laid out anew wherever it is named.
-pub fn signalling() -> [u16; 762]
+pub fn signalling() -> [u16; SIGNALLING_BLOCK]
     ensures { result ≡ order 762 }
 {
     ADDRESSES

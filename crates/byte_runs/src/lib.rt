@@ -9,7 +9,7 @@ pub fn copy(run: &[u8], out: &mut [u8], at: usize)
     ensures { out.new ≡ copied run.now out.old at }
 {
     if at <= out.len() && run.len() <= out.len() - at {
-        // no copy_from_slice: where the length is known at run time alone it is memmove, which opl.h does not ask for
+        // no copy_from_slice: of two lent slices, and so many bytes as are known at run time alone, it is memmove, which opl.h does not ask for
         for i in 0..run.len() {
             out[at + i] = run[i];
         }

@@ -8,10 +8,10 @@ ghost use Rattle.views.specs.View.{lists_at};
 ghost use Rattle.forms.specs.Records.{record_fault};
 
 use ground::refusal::Refusal;
-use views::{ABOVE, Counts, View};
+use views::{ABOVE, Counts, SECTION, View};
 
 // A section, with the four bits above it.
-const APART: usize = 16;
+const APART: usize = (SECTION + ABOVE) as usize;
 
 // 14: whether one of the four bits above one of the d sections is set; those above the first stand at a place.
 fn top_set(sheet: &[u8], at: u32, d: u16) -> bool

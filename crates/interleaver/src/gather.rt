@@ -14,6 +14,7 @@ ghost use Rattle.interleaver.specs.Inside.{
   Gathered,
 };
 
+use ground::PAYLOAD_WORD;
 use rows::SECOND;
 use wide::{Wide, put};
 
@@ -58,7 +59,7 @@ impl Pairs<'_> {
 
     // The row j into the sink: 24 bits, or 23 where it is cut short.
     // That fewer than 32 bits wait is no fact of `Wide` itself: whoever builds one would be asked for it, and `wide::put` takes any.
-    fn put_row(&self, out: &mut [u8; 1536], s: Wide, j: usize, v: u64) -> Wide
+    fn put_row(&self, out: &mut [u8; PAYLOAD_WORD], s: Wide, j: usize, v: u64) -> Wide
         requires { (j ≤ 512) × (s.used < 32) × (v < 16777216) × (place_of s + 24 ≤ 12288) }
         ensures { Put (row_value (short_at self.now.n j) v) (row_width (short_at self.now.n j)) out.old s out.new result }
     {
@@ -81,7 +82,7 @@ impl Pairs<'_> {
     // The rows of the half k into the sink, behind those before.
     fn put_rows(
         &self,
-        out: &mut [u8; 1536],
+        out: &mut [u8; PAYLOAD_WORD],
         s: Wide,
         rows: &[[u32; 2]; PAYLOAD_HALF],
         k: usize,
@@ -98,7 +99,7 @@ impl Pairs<'_> {
     }
 
     // The bits that the pairs hold first, in the order in which encoder 2 reads them, packed. Six bits more make whole words of 32, which the sink stores.
-    pub fn gather(&self, out: &mut [u8; 1536])
+    pub fn gather(&self, out: &mut [u8; PAYLOAD_WORD])
         requires { out.old ≡ replicate 1536 0 }
         ensures { Gathered self.now.n self.now.d.now out.new }
     {

@@ -17,7 +17,7 @@ pub const ROOM: usize = 4104;
 // open packet.
 #[derive(Clone, Copy)]
 pub struct Opened {
-    // IP_Packet_Type as a byte, since any can stand in the memory; what is handed out has it as one too
+    // IP_Packet_Type and IP_Packet_Error as bytes, since any can stand in the memory; what is handed out has them as bytes too
     pub kind: u8,
     pub error: u8,
     pub length: usize,

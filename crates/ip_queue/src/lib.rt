@@ -56,7 +56,8 @@ fn out_of_place(queue: &[u8], sent: u32) -> bool
     sent == 1 || first_length(queue) + 1 < sent as usize
 }
 
-// How many bytes of the packet that is open are still to come. Queue and `sent` stand beside each other, as C lends them.
+// How many bytes of the packet that is open are still to come. Queue and `sent` stand beside each other, as in `look`: a
+// struct of both would be made for this call alone.
 fn to_come(queue: &[u8], sent: u32) -> usize
     requires { Ready queue.now sent }
     ensures { result ≡ to_come sent (queue_in 0 queue.now).packets }

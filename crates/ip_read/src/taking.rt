@@ -12,7 +12,7 @@ use ip_look::PAYLOAD;
 use ip_open::{Opened, ROOM};
 
 // Where the walk over the headers stands, and how much is handed out. The packets are no field of it: lent as one, each step would have to
-// promise that the places stay.
+// promise that the places stay. Payload and memory are no struct either: each step would have to promise that the payload stays.
 #[derive(Clone, Copy)]
 pub struct Place {
     pub at: usize,

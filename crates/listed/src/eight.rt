@@ -4,11 +4,14 @@ ghost use Rattle.bits.specs.Places.{number, packed};
 ghost use Rattle.order.specs.Order.{order};
 ghost use Rattle.listed.specs.Inside.{read_bit};
 
+use ground::{PAYLOAD_WORD, SIGNALLING_BLOCK};
+use pairs::SIGNALLING_PAIRS;
+
 // A block's bits, a byte to a bit, and the addresses by which they are read.
 #[derive(Drop)]
 pub struct Block<'a> {
-    pub list: &'a [u16; 762],
-    pub bits: &'a [u8; 768],
+    pub list: &'a [u16; SIGNALLING_BLOCK],
+    pub bits: &'a [u8; SIGNALLING_PAIRS],
     ghost whole: { list.now ≡ order 762 },
     ghost single: { (a : ℕ) → get_or bits.now a 0 < 2 },
 }
@@ -31,10 +34,10 @@ impl Block<'_> {
     }
 
     // All bits, packed: 95 bytes, and the two bits behind them.
-    pub fn pack(&self, out: &mut [u8; 1536])
+    pub fn pack(&self, out: &mut [u8; PAYLOAD_WORD])
         ensures { out.new ≡ packed (read_bit self.now.bits.now) 1536 }
     {
-        *out = [0u8; 1536];
+        *out = [0u8; PAYLOAD_WORD];
         for i in 0..95 {
             out[i] = self.four(8 * i) * 16 + self.four(8 * i + 4);
         }

@@ -3,6 +3,8 @@ ghost use Rattle.std.specs.Prelude.{◌≡◌, ◌+◌, ◌*◌, ◌<◌, ◌≤
 ghost use Rattle.pairs.specs.Inside.{Stored};
 ghost use Rattle.listed.specs.Inside.{four_bit, Singles};
 
+use pairs::SIGNALLING_PAIRS;
+
 // The bits of every four bits.
 static FOURS: [[u8; 4]; 16] = [
     [0, 0, 0, 0],
@@ -32,7 +34,7 @@ fn put(v: usize, d: &mut [u8], at: usize)
 }
 
 // The bits of a word's first 96 bytes, and zeros behind a shorter word.
-pub fn unpack(word: &[u8], d: &mut [u8; 768])
+pub fn unpack(word: &[u8], d: &mut [u8; SIGNALLING_PAIRS])
     requires { d.old ≡ replicate 768 0 }
     ensures { Singles word.now d.new }
 {

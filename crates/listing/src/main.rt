@@ -5,7 +5,7 @@ ghost use Rattle.std.specs.Prelude.{◌≤◌, length, IfOk};
 
 use std::io;
 use std::io::{Read, Write};
-use text::Unlisted;
+use text::{ROOM, Unlisted};
 
 // Reads until the room is full or the input ends, and says how many bytes stand in it then. By hand: std's read_exact fails
 // where the input ends first, and its read_to_end takes a heap.
@@ -28,7 +28,7 @@ fn main(rt: HostRuntime) -> io::Result<()> {
     // header states is refused with 12. So of a longer input one byte more is enough to refuse it.
     let mut sheet = [0u8; 2572];
     let n = read_full(&mut rt.stdin(), &mut sheet)?;
-    let mut out = [0u8; 1024];
+    let mut out = [0u8; ROOM];
     match text::list(&sheet[..n], &mut out) {
         Ok(n) => rt.stdout().write_all(&out[..n]),
         // A refused sheet: the text is the refusal number alone.

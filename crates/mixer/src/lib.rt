@@ -46,7 +46,7 @@ fn onward(at: usize, step: usize, len: usize) -> usize
 }
 
 // The eight bits that stand inc apart from a place on, round the end of the codeword.
-// A bit is taken by hand: `bits::bit` asks at each whether the codeword goes so far, and mixing takes two fifths longer.
+// A bit is taken by hand: `bits::bit` asks at each whether the codeword goes so far, and `opl_mix` takes two fifths longer than it did (make bench).
 fn mixed_byte(codeword: &[u8], inc: usize, at: usize) -> u8
     requires { Round inc codeword.now × (at < 8 * length codeword.now) }
     ensures { result ≡ number (λ i. bit_at codeword.now ((at + inc * i) % (8 * length codeword.now))) 0 8 }

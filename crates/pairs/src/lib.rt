@@ -7,10 +7,12 @@ ghost use Rattle.std.specs.Prelude.{◌≡◌, ℕ, ◌+◌, ◌*◌, ◌/◌, �
 ghost use Rattle.pairs.specs.Pairs.{pairs_of, unpacked};
 ghost use Rattle.pairs.specs.Inside.{Copied, spread, Stored, Coupled};
 
+use ground::PAYLOAD_WORD;
+
 // as many pairs as a block's 24 segments have
 pub const PAYLOAD_PAIRS: usize = 12288;
 
-const SIGNALLING_PAIRS: usize = 768;
+pub const SIGNALLING_PAIRS: usize = 768;
 // the bytes of half a segment
 const PAYLOAD_HALF: usize = 32;
 
@@ -19,11 +21,11 @@ const SIGNALLING_HALF: usize = 2;
 const LOW: u64 = 1 << 56;
 
 // The word's first 1,536 bytes, and zeros behind a shorter word.
-fn block_of(word: &[u8]) -> [u8; 1536]
+fn block_of(word: &[u8]) -> [u8; PAYLOAD_WORD]
     ensures { Copied word.now result }
 {
-    let mut block = [0u8; 1536];
-    let n = word.len().min(ground::PAYLOAD_WORD);
+    let mut block = [0u8; PAYLOAD_WORD];
+    let n = word.len().min(PAYLOAD_WORD);
     block[..n].copy_from_slice(&word[..n]);
     block
 }
@@ -65,7 +67,7 @@ fn store(d: &mut [u8], at: usize, x: u64)
 }
 
 // A segment: `half` bytes of the word from a place on, with as many behind them.
-fn couple(spread: &Spread, word: &[u8; 1536], d: &mut [u8], from: usize, half: usize)
+fn couple(spread: &Spread, word: &[u8; PAYLOAD_WORD], d: &mut [u8], from: usize, half: usize)
     requires { (from + half * 2 ≤ 1536) × (8 * (from + half * 2) ≤ length d.old) }
     ensures { Coupled word.now from half d.old d.new half }
 {

@@ -18,7 +18,8 @@ const LOW_BITS: usize = PART_BITS - HIGH_BITS;
 // The weight in a part d47 .. d0 p0 that is a number of the lowest bit of its first field: p0 has the weight 1.
 const D16: u64 = 1 << 17;
 
-// The value where part k, to which the parity part v is due, has it behind the packets; else 0.
+// The value where part k, to which the parity part v is due, has it behind the packets; else 0. It is no bool: `held_of` adds up the four values, and a bool
+// would be turned into one at each of the calls.
 fn weight(word: &[u8], k: usize, v: u64, value: u8) -> u8
     requires { (k < 4) × (v ≡ part_of word.now (376 * k)) }
     ensures { (result ≡ choose (parity_holds (received word.now k)) value 0) × (result ≤ value) }

@@ -18,7 +18,7 @@ const UNITS: [u8; PATTERNS] = [
 ];
 
 // The capacity units of a pattern's codeword; 0 for a number that names no pattern.
-// It is no Option since its promise, `units_of` of specs/Rates.antt, is 0 there.
+// It is no Option: it answers for every number, as `units_of` of specs/Rates.antt does, and whoever calls it has tested the number before, or multiplies by the 0.
 pub fn units(pattern: usize) -> u8
     ensures { result ≡ units_of pattern }
 {
@@ -26,7 +26,7 @@ pub fn units(pattern: usize) -> u8
 }
 
 // The length in bits of the codeword of a block of n bits; 0 for a number that names no pattern, and for a block that is longer than the payload's.
-// It is no Option since its promise is 0 there, as `code_length` of specs/Sent.antt is.
+// It is no Option: it answers for every number, as `code_length` of specs/Sent.antt does, and whoever calls it has tested the number before.
 pub fn code_length(pattern: usize, n: usize) -> usize
     ensures { result ≡ choose (ltb 12282 n) 0 (code_length pattern n) }
 {
@@ -38,7 +38,7 @@ pub fn code_length(pattern: usize, n: usize) -> usize
 }
 
 // The bits of the block that a length tells, 0 where there is no such block.
-// It is no Option since its promise, `block_by` of specs/Blocks.antt, is 0 there, which `block_faults` refuses with 1.
+// It is no Option: the 0 of `block_by` (specs/Blocks.antt) goes on to `unfit`, and is what `block_faults` refuses with 1.
 pub fn block_by(payload: usize, signalling: usize, len: usize) -> usize
     ensures { result ≡ block_by payload signalling len }
 {

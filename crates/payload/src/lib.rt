@@ -21,7 +21,7 @@ pub fn read(word: &[u8]) -> Result<Header, Refusal>
 }
 
 // The payload of a word that is accepted, a part of the word itself and as it was received: 1,532 bytes for stream type 1, 1,504 for types
-// 2 and 3, whatever their parity says. Any other word shows an empty part.
+// 2 and 3, whatever their parity says. Any other word shows an empty part: it is no Result, since `shown` is empty there, and `read` says why.
 pub fn payload_of(word: &[u8]) -> &[u8]
     ensures { result.now ≡ shown word.now }
 {

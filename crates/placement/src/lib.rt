@@ -34,7 +34,7 @@ fn place_group(values: &[i8], at: usize, counts: u16, lane: &mut [i16], k: usize
     v
 }
 
-// The last of the data's entries. The loop below goes by it, and not by their number, since that is a sixth slower.
+// The last of the data's entries. The loop below goes by it, and not by their number, since `opl_place` is a sixth slower by that than it was (make bench).
 const LAST_DATA: usize = 11;
 
 // The places of the data's n groups; returns the next value's place.

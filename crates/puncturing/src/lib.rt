@@ -102,6 +102,7 @@ fn entry_from(row: u64, tail: u64, j: usize) -> u16
 }
 
 // How often each symbol is sent, by groups of five octal digits: twelve data groups, then the six tail groups. All zero for a number that names no pattern.
+// It is no Option: it answers for every number, as `entries` of specs/Entries.antt does, and whoever calls it has tested the number before.
 pub fn entries(pattern: usize) -> [u16; 18]
     ensures { result ≡ entries pattern }
 {

@@ -38,7 +38,7 @@ impl Row<'_> {
     }
 
     // The pairs at six places from t on: their first bits spell six bits of the row, and their second bits those of the row that is read with it.
-    // A loop over the six is not unrolled, and makes a block four times as slow.
+    // A loop over the six is not unrolled, and makes `opl_encode` four times as slow as it was (make bench).
     fn six(&self, t: usize, entries: [usize; 6]) -> u64
         requires { (t + 6 ≤ 24) × IsTrue (small entries) }
         ensures { (result ≡ number (six_of self.now.d.now self.now.size self.now.j t entries) 0 6) × (result < 16384) }
@@ -68,7 +68,8 @@ fn two(a: u64, b: u64, c: u64, d: u64) -> u64
 
 // What the pairs of the row j of a block of n bits spell, and above 32 bits the row half of all rows on, by table 10's entries for n = 9 and n = 5. It is 0 for a row from 512 on, and of
 // another number of pairs than the block has.
-// It is no Option since its promise, `rows_of` of specs/Spelt.antt, is 0 there.
+// It is no Option: it answers for any row and pairs, as `rows_of` of specs/Spelt.antt does, and the interleaver, which calls it, has the pairs of a block.
+// Each block has its own lines, by its column of table 10: one text for both would take a size and 24 entries more, and say no more.
 pub fn rows_of(n: usize, d: &[u8], j: usize) -> u64
     ensures { result ≡ rows_of n d.now j }
 {

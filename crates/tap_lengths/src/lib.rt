@@ -1,5 +1,6 @@
 // The taps of a pipe's disperser sections (table 19), and their intermediate lengths (clause 4.10.7).
-// A pipe is lent as its record of six bytes and its sections of two bytes each, as they stand in a sheet.
+// A pipe is lent as its record of six bytes and its sections of two bytes each, as they stand in a sheet. How many sections it has stands beside it:
+// `total` and `lengths` are public, and promised of any number.
 #![tactic(auto)]
 
 ghost use Rattle.std.specs.Prelude.{◌≡◌, ◌^◌, ◌<◌, ◌≤◌};
@@ -10,11 +11,12 @@ ghost use Rattle.tap_lengths.specs.Sections.{section_at, sections_at};
 ghost use Rattle.tap_lengths.specs.Inside.{Narrow, onward_of};
 
 use ground::TAPS;
+use views::{ABOVE, PIPE, SECTION};
 
 // The first bit of the first section: six bytes, then four bits that are not looked at; and how far apart sections are.
-const SECTIONS: usize = 52;
+const SECTIONS: usize = (PIPE + ABOVE) as usize;
 
-const APART: usize = 16;
+const APART: usize = (SECTION + ABOVE) as usize;
 
 // Num_Taps, Tap_Diff and Gap_Width of a section.
 #[derive(Clone, Copy)]

@@ -8,7 +8,7 @@ ghost use Rattle.text.specs.Answers.{told, listed};
 use ground::refusal::Refusal;
 
 // The room that a listing is lent; no text has more than 815 bytes.
-const ROOM: usize = 1024;
+pub const ROOM: usize = 1024;
 
 // Why a sheet's lists are not listed: it is refused, and the text of so many bytes says so alone; or there is no room.
 #[derive(Clone, Copy, Debug, PartialEq, Eq)]

@@ -8,7 +8,7 @@ ghost use Rattle.patterns.specs.Sent.{places, total};
 ghost use Rattle.interleaver.specs.Read.{interleaved};
 ghost use Rattle.turbo.specs.Stream.{code_bit, chunked, thrice, Prepared, Sent};
 
-use tables::Plan;
+use tables::{HALF, Plan};
 use wide::Wide;
 
 // The sink, and the registers of both encoders in one number.
@@ -32,7 +32,7 @@ fn chunk(out: &mut [u8], plan: &Plan, h: usize, c: Coder, u: usize, v: usize) ->
     requires { (h < 2) × (u < 64) × (v < 64) × (c.both < 64) }
     ensures { Is (chunked out.old plan.now h c u v) result out.new }
 {
-    let o = 192 * h;
+    let o = HALF * h;
     let k = if h == 0 { plan.k0 } else { plan.k1 };
     let z = plan.look[o + 128 + u] ^ plan.look[o + 64 + v] ^ plan.look[o + c.both];
     let sink = wide::put(out, c.sink, z / 64, k);

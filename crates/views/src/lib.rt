@@ -30,8 +30,8 @@ pub struct Counts {
     pub d: u16,
 }
 
-// The first bit of each list, and how far apart sections are. The bytes that it is of are no field: `list_fault`, `any_taps_wrong` and `places_of` are public
-// and are given the two apart.
+// The first bit of each list, and how far apart sections are. The bytes that it is of are no field: a word or a sheet is
+// looked at through it and by itself, and a struct of both would be made for each of the calls that take both.
 #[derive(Clone, Copy)]
 pub struct View {
     pub multiplex: u32,
