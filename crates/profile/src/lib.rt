@@ -14,9 +14,9 @@ use ground::refusal::Refusal;
 use slots::Profile;
 
 // The bytes of a pipe's record (table 16), and of a section as it stands in a sheet.
-const RECORD: usize = 6;
+const RECORD: usize = (views::PIPE / 8) as usize;
 
-const SECTION: usize = 2;
+const SECTION: usize = ((views::SECTION + views::ABOVE) / 8) as usize;
 
 // The numbers of a profile that is handed out: a length for each tap and the greatest delay.
 const NUMBERS: usize = TAPS + 1;
