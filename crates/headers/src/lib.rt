@@ -5,7 +5,7 @@ ghost use Rattle.std.specs.Prelude.{◌≡◌, ◌<◌};
 ghost use Rattle.description.specs.Sheet.{header, pipes_from, streams_from, sections_from, sheet_end};
 ghost use Rattle.description.specs.Header.{two_at, header_fault};
 
-// The bytes of multiplex and tail behind a header, and those of a payload pipe, a stream and a section.
+// The bytes of multiplex and tail behind a header, and those of a payload pipe, a stream and a section, as document 01 counts a sheet; views has their bits.
 const MULTIPLEX_AND_TAIL: u16 = 9;
 
 const PIPE: u16 = 6;

@@ -20,7 +20,7 @@ fn has_stray(bytes: &[u8]) -> bool
     bytes.iter().any(|b| *b != 255)
 }
 
-// Whether the packets are refused whose first header stands in front.
+// Whether the packets are refused whose first header stands in front. A while: it steps by the lengths that it reads.
 fn heads_refused(bytes: &[u8]) -> bool
     ensures { result ≡ (walk 0 bytes.now).refused }
 {

@@ -16,6 +16,7 @@ use ip_head::unsendable;
 pub const HEAD: usize = 4;
 
 // The refusal of a queue: 19 for a packet that is not sent, 1 for an end inside a packet or its four bytes, whichever comes first.
+// A while: it steps by the lengths that it reads.
 fn fault(queue: &[u8]) -> Result<(), Refusal>
     ensures { status result ≡ (queue_in 0 queue.now).number }
 {

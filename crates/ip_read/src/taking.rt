@@ -38,7 +38,7 @@ fn put_packet(packets: &mut [u8], out: usize, kind: u8, error: u8, run: &[u8])
 }
 
 // Hands out the packets that are whole, from the header at a place on. The walk ends at a packet that runs on, where no header fits,
-// and at FF FF, whose length of 4,095 runs on too.
+// and at FF FF, whose length of 4,095 runs on too. A while, as in ip_write: it steps by the lengths that it reads, and its place is the answer.
 fn hand_out(payload: &[u8; PAYLOAD], from: usize, packets: &mut [u8], start: usize) -> Place
     requires { ((walk_from from payload.now).refused ≡ false)
         × (start + length (queue (walk_from from payload.now).packets) ≤ length packets.old) }
@@ -109,7 +109,7 @@ fn follow(
     end.out
 }
 
-// The open packet takes the whole payload and runs on.
+// The open packet takes the whole payload and runs on. That it has at most 4,095 bytes is asked here and below: see `Opened`.
 fn go_on(payload: &[u8; PAYLOAD], memory: &mut [u8; ROOM], o: Opened)
     requires { (o.length ≤ 4095) × (o.sofar + 1504 < o.length) }
     ensures { memory.new

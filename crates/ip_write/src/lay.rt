@@ -73,7 +73,8 @@ fn put_packet(queue: &[u8], from: usize, n: usize, payload: &mut [u8], at: usize
     put_part(queue, from + HEAD, n, payload, at + HEADER);
 }
 
-// Packets of the queue while they fit as a whole.
+// Packets of the queue while they fit as a whole. A while: it steps by the lengths that it reads, and the place where it stops is the answer,
+// which a rest of a slice does not have.
 fn put_packets(queue: &[u8], payload: &mut [u8], place: Place) -> Place
     requires { Laid queue.now payload.old place.at place.from }
     ensures { Laid queue.now payload.new result.at result.from × Same queue.now payload.old place.at place.from payload.new result.at result.from × NoneFits queue.now result.at result.from }

@@ -14,7 +14,7 @@ use wide::Wide;
 // The low 32 bits of a parity part, which has 49: no more go into the sink at once.
 const LOW: u64 = 0x1_0000_0000;
 
-// 49 bits more.
+// 49 bits more. That fewer than 32 bits wait is no fact of `Wide` itself: whoever builds one would be asked for it, and `wide::put` takes any.
 fn put49(out: &mut [u8], s: Wide, v: u64) -> Wide
     requires { (s.used < 32) × (v < 2 ^ 49) × (place_of s + 49 ≤ 8 * length out.old) }
     ensures { Put v 49 out.old s out.new result }

@@ -11,6 +11,7 @@ use crate::sof::PREAMBLE;
 use ground::refusal::Refusal;
 
 // Writes the preamble that is due into 32 bytes; refuses any other length and touches nothing.
+// A bool and no enum, as `due` of the definitions takes one.
 pub fn write(inverted: bool, out: &mut [u8]) -> Result<(), Refusal>
     ensures { Is (written inverted out.old) (status result) out.new }
 {

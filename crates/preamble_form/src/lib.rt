@@ -24,7 +24,7 @@ const FORM: usize = 1;
 
 const NEITHER: u8 = 0;
 
-// Whether 32 bytes are the preamble. All of them are compared, which the compiler makes vectors of: == stops at the first that differs, and takes a third more.
+// Whether 32 bytes are the preamble; a bool tells which, as to `due`. All of them are compared, which the compiler makes vectors of: == stops at the first that differs, and takes a third more.
 fn is_sof(inverted: bool, bytes: &[u8]) -> bool
     requires { length bytes.now ≡ 32 }
     ensures { result ≡ same bytes.now (due inverted) }

@@ -7,7 +7,7 @@ ghost use Rattle.bits.specs.Places.{number};
 ghost use Rattle.rows.specs.Spelt.{digits, twice, rows_of};
 ghost use Rattle.rows.specs.Inside.{small, pair_at, six_of};
 
-// the segments of a block
+// the segments of a block; pairs has the product with the rows as a number, here the rows divide
 const SEGMENTS: usize = 24;
 // a segment has as many pairs as the block has rows
 const PAYLOAD_ROWS: usize = 512;
